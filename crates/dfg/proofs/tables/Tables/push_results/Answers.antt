@@ -1,0 +1,7 @@
+use mathlib.Core.Path.{refl, sym, ap, _∙_}
+use mathlib.Core.List.{[], _∷_, _++_, append-assoc}
+use borrow.Author.Needs.{needs}
+use Rattle.dfg.proofs.tables.Tables.push_results.Needs as need
+
+pub returns-in-len2-up : need.returns-in-len2-up
+returns-in-len2-up c = record { items = search (needs, append-assoc); capacity = search needs; insts = refl; blocks = refl }

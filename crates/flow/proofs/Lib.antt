@@ -1,0 +1,13 @@
+pub mod Among
+pub mod Laws
+pub mod Layouts
+pub mod Orders
+pub mod Paths
+pub mod Places
+pub mod Range
+pub mod Rounds
+pub mod Sequences
+pub mod Steps
+pub mod Traps
+pub mod Unfolds
+pub mod Walks

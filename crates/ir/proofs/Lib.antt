@@ -1,0 +1,5 @@
+pub mod Decoding
+pub mod Immediates
+pub mod OneToOne
+pub mod Range
+pub mod Signatures
