@@ -1,13 +1,1 @@
-pub mod Accepted
-pub mod AliasLoops
-pub mod Chains
-pub mod Changes
-pub mod Feeding
-pub mod Growth
-pub mod Kept
-pub mod Loops
-pub mod NoLoops
-pub mod Reaching
-pub mod Steps
-pub mod Sweeping
-pub mod Through
+pub mod Marking

@@ -10,7 +10,7 @@ use Rattle.flow.specs.Walk.{Topological}
 use Rattle.rows.specs.Meaning.{flow}
 use Rattle.rows.specs.Rows.{Rows}
 use Rattle.rows.specs.declared.value.ValueData.{ValueData}
-use Rattle.dfg.specs.Loops.{anyThrough, reachesThrough}
+use Rattle.plain.specs.Loops.{anyThrough, reachesThrough}
 
 -- an alias finder that was shown some values and has not stopped: the aliases of none lead through the destination
 pub record NoneThrough (rows : List ValueData) (d : ℕ) (shown : List ℕ) (rows′ : List ValueData) (d′ : ℕ) : Type 0 where

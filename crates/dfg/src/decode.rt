@@ -2,7 +2,7 @@
 ghost use mathlib.Core.Path.{_≡_};
 ghost use Prim.Native.Nat.{_<_};
 ghost use Rattle.calls.specs.Calls.{instOf};
-ghost use Rattle.dfg.specs.Feed.{typeOr, opcodeOf, condOf, argsOf, namesKnown, typesKnown, firstType, resultsFrom};
+ghost use Rattle.plain.specs.Feed.{typeOr, opcodeOf, condOf, argsOf, namesKnown, typesKnown, firstType, resultsFrom};
 use calls::NewInst;
 use ir::IntCC;
 use ir::Opcode;

@@ -180,6 +180,7 @@ module _ (g : Flow) (lawful : Lawful g) where
             rest = r .0;
             parts = sym (t .comes) ∙ r .1;
             stops = next _ (t .fits);
+            order = walk-is-post-order g lawful root;
           }
 
       pub met-turn : Turn g root marks (Trace (value v) ∷ st) steps Fits → v < length marks → (getD marks v 0 ≡ 0 → ⊥) → Turn g root marks st (steps + 1) Fits

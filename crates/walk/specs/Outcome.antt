@@ -25,6 +25,7 @@ pub record Stopped (g : Flow) (root : ℕ) (Stops : List ℕ → Type 0) : Type 
   pub rest : List ℕ
   pub parts : walk g root ≡ front ++ rest
   pub stops : Stops front
+  pub order : PostOrder g root (walk g root)
 
 -- What a walk answers, over room for so many marks: a refusal has one of two causes.
 abbrev pub Walked : {S : Type 0} (g : Flow) (root room : ℕ) (Fits : List ℕ → Type 0) (Stops : List ℕ → S → Type 0) → Result ℕ (WalkError S) → Type 0

@@ -25,7 +25,7 @@ pub fn clear(bytes: &mut [u8])
 }
 
 /// Marks `v`.
-pub fn mark(marks: &mut [u8], v: Value)
+pub(crate) fn mark(marks: &mut [u8], v: Value)
     requires { ⌜ v .0 < length (now marks) ⌝ }
     ensures { λ _. ⌜ now (marks .exit) ≡ set (now (marks .entry)) (v .0) 1 ⌝ }
 {
@@ -33,7 +33,7 @@ pub fn mark(marks: &mut [u8], v: Value)
 }
 
 /// Whether `v` is marked.
-pub fn is_marked(marks: &[u8], v: Value) -> bool
+pub(crate) fn is_marked(marks: &[u8], v: Value) -> bool
     requires { ⌜ v .0 < length (now marks) ⌝ }
     ensures { λ r. ⌜ r ≡ not (eqb (getD (now (marks .entry)) (v .0) 0) 0) ⌝ }
 {

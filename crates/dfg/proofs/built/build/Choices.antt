@@ -4,7 +4,8 @@ use lib.ListN.{take, length}
 use Rattle.std.specs.Of.Vec.{vec-items}
 use Rattle.rows.specs.Rows.{empty}
 use Rattle.calls.specs.Calls.{callOf}
-use Rattle.dfg.specs.Feed.{plain, fedAll, answersTo}
+use Rattle.dfg.specs.Plain.{plain}
+use Rattle.plain.specs.Feed.{fedAll, answersTo}
 use Rattle.dfg.proofs.built.build.Given as given
 
 -- the calls so far made the graph and were answered

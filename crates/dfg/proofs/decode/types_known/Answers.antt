@@ -6,7 +6,7 @@ use lib.ListN.{drop, getD}
 use Rattle.std.specs.Options.{isSome}
 use Rattle.std.proofs.shelf.Lists.{drop-all, drop-more}
 use Rattle.ir.specs.Codes.{typeAt}
-use Rattle.dfg.specs.Feed.{typesKnown}
+use Rattle.plain.specs.Feed.{typesKnown}
 use Rattle.dfg.proofs.decode.types_known.Needs as need
 
 pub returns-then-not-is-some : need.returns-then-not-is-some

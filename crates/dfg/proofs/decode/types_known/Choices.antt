@@ -1,6 +1,6 @@
 use mathlib.Core.Path.{_≡_}
 use lib.ListN.{drop}
-use Rattle.dfg.specs.Feed.{typesKnown}
+use Rattle.plain.specs.Feed.{typesKnown}
 use Rattle.dfg.proofs.decode.types_known.Given as given
 
 -- what is left decides

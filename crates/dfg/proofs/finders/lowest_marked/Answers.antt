@@ -6,7 +6,7 @@ use lib.Dec.{eqb}
 use lib.ListN.{getD}
 use Rattle.std.proofs.shelf.Tests.{eq-eqb, ne-eqb}
 use Rattle.dfg.specs.Finders.{markedBut}
-use Rattle.dfg.proofs.Through.{first-here, first-step, first-end}
+use Rattle.plain.proofs.Through.{first-here, first-step, first-end}
 use Rattle.dfg.proofs.finders.lowest_marked.Needs as need
 use Rattle.dfg.proofs.finders.lowest_marked.Needs.{else-v-root·by·then-v-root·else-is-marked, else-v-root·by·else-v-root}
 

@@ -1,7 +1,7 @@
 use mathlib.Core.Path.{_≡_}
 use Prim.Native.Nat.{_-_}
 use Rattle.dfg.specs.Finders.{markedBut}
-use Rattle.dfg.specs.Loops.{firstFrom}
+use Rattle.plain.specs.Loops.{firstFrom}
 use Rattle.dfg.proofs.finders.lowest_marked.Given as given
 
 -- the lowest value from here on is the lowest of all

@@ -3,9 +3,10 @@ use borrow.Author.Needs.{needs}
 use Rattle.std.specs.declared.option.Option.the-variants.{None}
 use Rattle.calls.specs.Calls.{InstCall, AppendInst, instOf}
 use Rattle.rows.specs.WellFormed.{WellFormed}
-use Rattle.dfg.specs.Feed.{plain, first, checks}
-use Rattle.dfg.proofs.Accepted.{inst-accepted}
-use Rattle.dfg.proofs.Kept.{inst-kept}
+use Rattle.dfg.specs.Plain.{plain}
+use Rattle.plain.specs.Feed.{first, checks}
+use Rattle.plain.proofs.Accepted.{inst-accepted}
+use Rattle.plain.proofs.Kept.{inst-kept}
 use Rattle.dfg.proofs.dfg.DataFlowGraph.append_inst.Needs as need
 
 pub push-inst-requires : need.push-inst-requires

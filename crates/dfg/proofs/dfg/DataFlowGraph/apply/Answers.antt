@@ -6,9 +6,10 @@ use Rattle.std.proofs.shelf.Results.{err-from-errBy}
 use Rattle.rows.specs.Rows.{Rows}
 use Rattle.calls.specs.Calls.{Call, AppendBlockParam, AppendInst, ChangeToAlias, callOf, instOf}
 use Rattle.calls.specs.declared.answer.Answer.the-variants as made
-use Rattle.dfg.specs.Feed.{plain, fedWith, nextValue, nextInst}
-use Rattle.dfg.specs.Marks.{marksAfter}
-use Rattle.dfg.proofs.Feeding.{refused-as, given-as}
+use Rattle.dfg.specs.Plain.{plain}
+use Rattle.plain.specs.Feed.{fedWith, nextValue, nextInst}
+use Rattle.plain.specs.Marks.{marksAfter}
+use Rattle.plain.proofs.Feeding.{refused-as, given-as}
 use Rattle.dfg.proofs.dfg.DataFlowGraph.apply.Needs as need
 
 pub returns-in-Break-append-block-param : need.returns-in-Break-append-block-param

@@ -12,13 +12,14 @@ use Rattle.rows.specs.Meaning.{flow}
 use Rattle.rows.specs.Rows.{Rows, original}
 use Rattle.rows.specs.WellFormed.{WellFormed}
 use Rattle.rows.proofs.Lawfulness.{live-in, live-is, original-width}
-use Rattle.dfg.specs.Feed.{plain, first, checks, orElse, fedUnless, answerUnless, grown}
-use Rattle.dfg.specs.Marks.{sweptUnless}
-use Rattle.dfg.specs.Loops.{loopRefusal, reachesThrough}
-use Rattle.dfg.specs.AliasLoops.{Judged}
-use Rattle.dfg.proofs.Accepted.{alias-accepted}
-use Rattle.dfg.proofs.AliasLoops.{judged}
-use Rattle.dfg.proofs.Kept.{alias-kept, no-refusal}
+use Rattle.dfg.specs.Plain.{plain}
+use Rattle.plain.specs.Feed.{first, checks, orElse, fedUnless, answerUnless, grown}
+use Rattle.plain.specs.Marks.{sweptUnless}
+use Rattle.plain.specs.Loops.{loopRefusal, reachesThrough}
+use Rattle.plain.specs.AliasLoops.{Judged}
+use Rattle.plain.proofs.Accepted.{alias-accepted}
+use Rattle.plain.proofs.AliasLoops.{judged}
+use Rattle.plain.proofs.Kept.{alias-kept, no-refusal}
 use Rattle.calls.specs.Calls.{ChangeToAlias}
 use Rattle.dfg.proofs.dfg.DataFlowGraph.change_to_alias.Needs as need
 

@@ -4,10 +4,10 @@ use Prim.Native.Nat.{_≤_}
 use lib.ListN.{length}
 use Rattle.std.specs.declared.option.Option.the-variants.{Some, None}
 use Rattle.ir.specs.declared.refusal.Cause.the-variants.{Loop}
-use Rattle.dfg.specs.Feed.{plain}
-use Rattle.dfg.specs.Marks.{swept}
-use Rattle.dfg.specs.Loops.{reachesThrough, lowestInLoop}
-use Rattle.dfg.proofs.Sweeping.{swept-again, swept-room}
+use Rattle.dfg.specs.Plain.{plain}
+use Rattle.plain.specs.Marks.{swept}
+use Rattle.plain.specs.Loops.{reachesThrough, lowestInLoop}
+use Rattle.plain.proofs.Sweeping.{swept-again, swept-room}
 use Rattle.dfg.proofs.dfg.DataFlowGraph.loop_refusal.Needs as need
 
 pub lowest-in-loop-place-requires : need.lowest-in-loop-place-requires

@@ -2,10 +2,11 @@ use mathlib.Core.Path.{_≡_, ap, _∙_}
 use native.Mathlib.Omega.{arith}
 use lib.ListN.{length}
 use Rattle.rows.specs.Rows.{Rows}
-use Rattle.dfg.specs.Feed.{plain}
+use Rattle.dfg.specs.Plain.{plain}
 use Rattle.dfg.specs.Finders.{markedBut}
-use Rattle.dfg.specs.Loops.{closes, firstFrom, lowestInLoop}
-use Rattle.dfg.proofs.Reaching.{first-same, marks-close}
+use Rattle.plain.specs.Loops.{closes, firstFrom, lowestInLoop}
+use Rattle.dfg.proofs.Marking.{marks-close}
+use Rattle.plain.proofs.Through.{first-same}
 use Rattle.dfg.proofs.dfg.DataFlowGraph.lowest_in_loop.Needs as need
 
 pub returns : need.returns

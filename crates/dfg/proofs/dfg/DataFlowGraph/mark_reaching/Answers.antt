@@ -1,8 +1,8 @@
 use Rattle.flow.proofs.Places.{walk-topological}
 use Rattle.rows.specs.Meaning.{flow}
 use Rattle.rows.proofs.Lawfulness.{lawful}
-use Rattle.dfg.specs.Feed.{plain}
-use Rattle.dfg.proofs.Reaching.{none-marked}
+use Rattle.dfg.specs.Plain.{plain}
+use Rattle.dfg.proofs.Marking.{none-marked}
 use Rattle.dfg.proofs.dfg.DataFlowGraph.mark_reaching.Needs as need
 
 pub returns : need.returns

@@ -2,10 +2,10 @@ use mathlib.Core.Path.{sym}
 use lib.ListN.{length}
 use Rattle.std.specs.Of.Vec.{vec-items}
 use Rattle.rows.specs.Meaning.{flow}
-use Rattle.dfg.specs.Feed.{plain}
+use Rattle.dfg.specs.Plain.{plain}
 use Rattle.dfg.specs.Finders.{NoneThrough}
-use Rattle.dfg.specs.Loops.{reachesThrough}
-use Rattle.dfg.proofs.Reaching.{stopped-found}
+use Rattle.plain.specs.Loops.{reachesThrough}
+use Rattle.dfg.proofs.Marking.{stopped-found}
 use Rattle.dfg.proofs.dfg.DataFlowGraph.reaches_through.Needs as need
 
 pub returns-in-Ok : need.returns-in-Ok

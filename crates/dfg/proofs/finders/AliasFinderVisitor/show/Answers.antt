@@ -1,5 +1,5 @@
 use mathlib.Core.Path.{sym}
-use Rattle.dfg.proofs.Reaching.{none-more, found-more}
+use Rattle.dfg.proofs.Marking.{none-more, found-more}
 use Rattle.dfg.proofs.finders.AliasFinderVisitor.show.Needs as need
 
 pub returns-then-leads-through : need.returns-then-leads-through

@@ -1,6 +1,6 @@
 use Rattle.rows.proofs.Lawfulness.{lawful}
-use Rattle.dfg.specs.Feed.{plain}
-use Rattle.dfg.proofs.Reaching.{marked-more}
+use Rattle.dfg.specs.Plain.{plain}
+use Rattle.dfg.proofs.Marking.{marked-more}
 use Rattle.dfg.proofs.finders.LoopMarkerVisitor.show.Needs as need
 
 pub returns : need.returns

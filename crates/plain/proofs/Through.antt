@@ -8,12 +8,12 @@ use native.Mathlib.Omega.{arith}
 use lib.Dec.{eqb}
 use lib.ListN.{getD}
 use Rattle.std.specs.shelf.Lists.{countBy}
-use Rattle.std.proofs.shelf.Tests.{or-left, or-cases, or-parts, eq-eqb, ne-eqb, eqb-true, false≢true}
+use Rattle.std.proofs.shelf.Tests.{or-left, or-right, or-cases, or-parts, eq-eqb, ne-eqb, eqb-true, false≢true}
 use Rattle.flow.specs.Meaning.{has}
 use Rattle.rows.specs.Rows.{stepIn, isAlias, follow}
 use Rattle.rows.specs.WellFormed.{Settled}
 use Rattle.rows.proofs.Aliases.{Ends, step-end}
-use Rattle.dfg.specs.Loops.{leads, through, anyThrough, firstFrom}
+use Rattle.plain.specs.Loops.{leads, through, anyThrough, firstFrom}
 use Rattle.rows.specs.declared.value.ValueData.{ValueData}
 use Rattle.rows.specs.declared.value.ValueData.the-variants.{Deleted}
 
@@ -60,6 +60,12 @@ any-push rows d [] v = or-end (through rows d v)
     or-end false = refl
 any-push rows d (x ∷ shown) v = ap (λ b. through rows d x || b) (any-push rows d shown v) ∙ sym (or-assoc (through rows d x) (anyThrough rows d shown) (through rows d v))
 
+-- what holds of a front of a walk's list holds of the list
+pub any-front : (rows : List ValueData) (d : ℕ) (front rest : List ℕ) → anyThrough rows d front ≡ true → anyThrough rows d (front ++ rest) ≡ true
+any-front rows d [] rest e = absurd (false≢true e)
+any-front rows d (v ∷ front) rest e =
+    elim (or-cases (through rows d v) _ e) [ inl h ↦ or-left (through rows d v) _ h | inr h ↦ or-right (through rows d v) _ (any-front rows d front rest h) ]
+
 pub none-through : (rows : List ValueData) (d : ℕ) (vs : List ℕ) (w : ℕ) → anyThrough rows d vs ≡ false → has vs w ≡ true → through rows d w ≡ false
 none-through rows d [] w e h = absurd (false≢true h)
 none-through rows d (v ∷ vs) w e h =
@@ -86,3 +92,10 @@ first-step test n i l e =
 pub first-end : (test : ℕ → Bool) (n i : ℕ) → n ≤ i → firstFrom test (n - i) i ≡ i
 unfolding firstFrom
 first-end test n i l = let m : n - i ≡ 0 = omega arith in ap (λ k. firstFrom test k i) m
+
+pub first-same : (f h : ℕ → Bool) (n v : ℕ) → ((u : ℕ) → u < n + v → f u ≡ h u) → firstFrom f n v ≡ firstFrom h n v
+unfolding firstFrom
+first-same f h zero v same = refl
+first-same f h (suc n) v same =
+    ap (λ b. cond b v (firstFrom f n (suc v))) (same v (omega arith))
+    ∙ ap (λ x. cond (h v) v x) (first-same f h n (suc v) (λ u lt. same u (omega arith)))

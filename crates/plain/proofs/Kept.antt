@@ -20,21 +20,21 @@ use Rattle.rows.specs.Rows.{Rows, empty, instAt, noInst, allLive, original}
 use Rattle.rows.specs.WellFormed.{WellFormed, BlocksFit}
 use Rattle.rows.proofs.Lawfulness.{lawful}
 use Rattle.rows.proofs.Tables.{longer}
-use Rattle.dfg.specs.Feed.{first, checks, grown, instRow}
-use Rattle.dfg.specs.Loops as loops
-use Rattle.dfg.specs.Loops.{reachesThrough}
-use Rattle.dfg.proofs.Accepted.{none-stands, inst-accepted}
-use Rattle.dfg.proofs.Changes.{clear-sound, alias-sound, resolve-sound, clear-blocks, resolve-blocks}
-use Rattle.dfg.proofs.Growth.{Grown, values-fit, insts-fit, results-fit, blocks-fit}
-use Rattle.dfg.proofs.Loops.{Path, path-reach}
-use Rattle.dfg.proofs.NoLoops.{usesIn, uses-are, more-no-loop, clear-no-loop, resolve-no-loop, alias-no-loop}
-use Rattle.dfg.proofs.Steps.{param-grown, inst-grown, param-sound, inst-sound, rows-end}
-use Rattle.dfg.proofs.Through.{none-through}
+use Rattle.plain.specs.Feed.{first, checks, grown, instRow}
+use Rattle.plain.specs.Loops as loops
+use Rattle.plain.specs.Loops.{reachesThrough}
+use Rattle.plain.proofs.Accepted.{none-stands, inst-accepted}
+use Rattle.plain.proofs.Changes.{clear-sound, alias-sound, resolve-sound, clear-blocks, resolve-blocks}
+use Rattle.plain.proofs.Growth.{Grown, values-fit, insts-fit, results-fit, blocks-fit}
+use Rattle.plain.proofs.Loops.{Path, path-reach}
+use Rattle.plain.proofs.NoLoops.{usesIn, uses-are, more-no-loop, clear-no-loop, resolve-no-loop, alias-no-loop}
+use Rattle.plain.proofs.Steps.{param-grown, inst-grown, param-sound, inst-sound, rows-end}
+use Rattle.plain.proofs.Through.{none-through}
 use Rattle.calls.specs.Calls.{MakeBlock, AppendBlockParam, AppendInst, ClearResults, ChangeToAlias, ResolveAllAliases}
 use Rattle.calls.specs.Calls.{InstCall}
 use Rattle.rows.specs.declared.instruction.InstructionData.{InstructionData}
 use Rattle.std.proofs.shelf.Lists.{getD-past}
-use Rattle.dfg.specs.Feed.{resultRows}
+use Rattle.plain.specs.Feed.{resultRows}
 
 pub empty-loopless : NoLoop (flow empty)
 unfolding flow

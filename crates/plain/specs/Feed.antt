@@ -34,17 +34,11 @@ use Rattle.rows.specs.declared.instruction.Results.{Results}
 use Rattle.rows.specs.declared.instruction.Results.the-variants as results
 use Rattle.rows.specs.declared.value.ValueData.{ValueData}
 use Rattle.rows.specs.declared.value.ValueData.the-variants.{Inst, Param, Alias}
-use Rattle.dfg.specs.Attached.{attached, paramCount, cleared, rewritten}
-use Rattle.dfg.specs.Held.{held}
-use Rattle.dfg.specs.Loops.{loopRefusal}
+use Rattle.plain.specs.Attached.{attached, paramCount, cleared, rewritten}
+use Rattle.plain.specs.Loops.{loopRefusal}
 use Rattle.calls.specs.Calls.{InstCall, Call, MakeBlock, AppendBlockParam, AppendInst, ClearResults, ChangeToAlias, ResolveAllAliases}
 use Rattle.calls.specs.declared.answer.Answer.{Answer}
 use Rattle.calls.specs.declared.answer.Answer.the-variants as made
-use Rattle.dfg.specs.declared.dfg.DataFlowGraph.{DataFlowGraph}
-
--- the plain graph that a graph holds
-abbrev pub plain : DataFlowGraph → Rows
-plain g = held (g .tables)
 
 -- ---- refusals
 

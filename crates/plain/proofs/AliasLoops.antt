@@ -25,15 +25,15 @@ use Rattle.rows.proofs.Lawfulness.{lawful, length-flow}
 use Rattle.rows.specs.declared.value.ValueData.{ValueData}
 use Rattle.rows.specs.declared.value.ValueData.the-variants.{Deleted}
 use Rattle.calls.specs.Calls.{ChangeToAlias}
-use Rattle.dfg.specs.AliasLoops.{InLoop, LowestInLoop, Judged}
-use Rattle.dfg.specs.Feed.{first, checks, grown, answerUnless}
-use Rattle.dfg.specs.Loops.{leads, through, reachesThrough, closes, firstFrom, lowestInLoop, loopRefusal}
-use Rattle.dfg.proofs.Accepted.{alias-accepted}
-use Rattle.dfg.proofs.Kept.{alias-kept, no-refusal}
-use Rattle.dfg.proofs.Loops.{Path, one, more, Loopless, Comes, reach-path, path-reach, loopless, no-loop, looped, in-loop}
-use Rattle.dfg.proofs.NoLoops.{usesIn, uses-are, rows-loopless, taken, left}
-use Rattle.dfg.proofs.Reaching.{reaches-some, some-reaches}
-use Rattle.dfg.proofs.Through.{through-end}
+use Rattle.plain.specs.AliasLoops.{InLoop, LowestInLoop, Judged}
+use Rattle.plain.specs.Feed.{first, checks, grown, answerUnless}
+use Rattle.plain.specs.Loops.{leads, through, reachesThrough, closes, firstFrom, lowestInLoop, loopRefusal}
+use Rattle.plain.proofs.Accepted.{alias-accepted}
+use Rattle.plain.proofs.Kept.{alias-kept, no-refusal}
+use Rattle.plain.proofs.Loops.{Path, one, more, Loopless, Comes, reach-path, path-reach, loopless, no-loop, looped, in-loop}
+use Rattle.plain.proofs.NoLoops.{usesIn, uses-are, rows-loopless, taken, left}
+use Rattle.plain.proofs.Reaching.{reaches-some, some-reaches}
+use Rattle.plain.proofs.Through.{through-end}
 
 -- ---- what leads through one value has one original
 

@@ -25,14 +25,14 @@ use Rattle.rows.specs.Rows.{Rows, valueAt, instAt, noInst, typeIn, widthAt, isA
 use Rattle.rows.specs.WellFormed.{Sound, valueFits}
 use Rattle.rows.proofs.Aliases.{follow-end}
 use Rattle.rows.proofs.Lawfulness.{node-in, node-past, live-in, def-live, original-in, original-own}
-use Rattle.dfg.specs.Attached.{cleared, mapArgs, rewritten}
-use Rattle.dfg.specs.Feed.{first, checks, grown}
-use Rattle.dfg.specs.Loops.{through}
-use Rattle.dfg.proofs.Accepted as accepted
-use Rattle.dfg.proofs.Chains.{original-more, original-through, original-past, erased-ends}
-use Rattle.dfg.proofs.Changes.{same-part, getD-mapped}
-use Rattle.dfg.proofs.Growth.{Grown, row-kept, inst-kept}
-use Rattle.dfg.proofs.Loops.{Path, Loopless, loopless, no-loop, same-loop, grown-loop, resolved-loop, aliased-loop}
+use Rattle.plain.specs.Attached.{cleared, mapArgs, rewritten}
+use Rattle.plain.specs.Feed.{first, checks, grown}
+use Rattle.plain.specs.Loops.{through}
+use Rattle.plain.proofs.Accepted as accepted
+use Rattle.plain.proofs.Chains.{original-more, original-through, original-past, erased-ends}
+use Rattle.plain.proofs.Changes.{same-part, getD-mapped}
+use Rattle.plain.proofs.Growth.{Grown, row-kept, inst-kept}
+use Rattle.plain.proofs.Loops.{Path, Loopless, loopless, no-loop, same-loop, grown-loop, resolved-loop, aliased-loop}
 use Rattle.calls.specs.Calls.{ClearResults, ChangeToAlias, ResolveAllAliases}
 use Rattle.rows.specs.declared.instruction.InstructionData.{InstructionData}
 use Rattle.rows.specs.declared.value.ValueData.{ValueData}

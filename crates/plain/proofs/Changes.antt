@@ -24,11 +24,11 @@ use Rattle.ir.specs.Entities.{argCount}
 use Rattle.rows.specs.Rows.{Rows, valueAt, instAt, noInst, typeIn, widthIn, widthAt, live, allLive, widthsOf, isAlias, original, lists, names, erased}
 use Rattle.rows.specs.WellFormed.{Sound, BlocksFit, valueFits, resultFits, fitsWith, resultsFit, ValuesFit}
 use Rattle.rows.proofs.Lawfulness.{live-in, width-follow}
-use Rattle.dfg.specs.Attached.{attached, attachedIn, cleared, mapArgs, rewritten}
-use Rattle.dfg.specs.Feed.{first, checks, grown}
-use Rattle.dfg.proofs.Accepted as accepted
-use Rattle.dfg.proofs.Chains.{settled-aliased, settled-erased}
-use Rattle.dfg.proofs.Growth.{Keeps, OverInsts, over, over-inst, over-param, all-live-kept, arg-widths-kept, listed-kept}
+use Rattle.plain.specs.Attached.{attached, attachedIn, cleared, mapArgs, rewritten}
+use Rattle.plain.specs.Feed.{first, checks, grown}
+use Rattle.plain.proofs.Accepted as accepted
+use Rattle.plain.proofs.Chains.{settled-aliased, settled-erased}
+use Rattle.plain.proofs.Growth.{Keeps, OverInsts, over, over-inst, over-param, all-live-kept, arg-widths-kept, listed-kept}
 use Rattle.calls.specs.Calls.{ClearResults, ChangeToAlias, ResolveAllAliases}
 use Rattle.rows.specs.declared.instruction.InstructionData.{InstructionData}
 use Rattle.rows.specs.declared.instruction.Results.{Results}

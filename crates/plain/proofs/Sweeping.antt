@@ -6,7 +6,7 @@ use native.Mathlib.Omega.{arith}
 use lib.ListN.{length, drop, replicate}
 use Rattle.std.proofs.shelf.Lists.{length-append, length-drop, length-replicate}
 use Rattle.std.proofs.shelf.Parts.{drop-append-drop}
-use Rattle.dfg.specs.Marks.{swept}
+use Rattle.plain.specs.Marks.{swept}
 
 pub swept-again : (marks : List ℕ) → swept (swept marks) ≡ swept marks
 swept-again marks = ap (λ rest. replicate 1024 0 ++ rest) (drop-append-drop 1024 marks (replicate 1024 0) 1024 (omega arith) (length-replicate {A = ℕ} 1024 0))

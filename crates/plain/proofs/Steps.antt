@@ -25,11 +25,11 @@ use Rattle.ir.specs.declared.types.Type as T
 use Rattle.ir.specs.declared.types.Type.the-variants.{Invalid, Other, I8, I16, I32, I64}
 use Rattle.rows.specs.Rows.{Rows, valueAt, names, isAlias, instAt, noInst, widthsOf}
 use Rattle.rows.specs.WellFormed.{Sound, valueFits, resultFits, resultsFit}
-use Rattle.dfg.specs.Attached.{paramCount}
-use Rattle.dfg.specs.Feed.{first, checks, grown, typeOr, resultRows, resultsFrom, instRow, typesKnown, argsOf, firstType, constraintsIn}
-use Rattle.dfg.proofs.Accepted as accepted
-use Rattle.dfg.proofs.Chains.{settled-more}
-use Rattle.dfg.proofs.Growth.{Grown, Keeps, keeps, values-fit, insts-fit, results-fit, arg-widths-kept, all-live-kept}
+use Rattle.plain.specs.Attached.{paramCount}
+use Rattle.plain.specs.Feed.{first, checks, grown, typeOr, resultRows, resultsFrom, instRow, typesKnown, argsOf, firstType, constraintsIn}
+use Rattle.plain.proofs.Accepted as accepted
+use Rattle.plain.proofs.Chains.{settled-more}
+use Rattle.plain.proofs.Growth.{Grown, Keeps, keeps, values-fit, insts-fit, results-fit, arg-widths-kept, all-live-kept}
 use Rattle.calls.specs.Calls.{MakeBlock, AppendBlockParam, AppendInst}
 use Rattle.calls.specs.Calls.{InstCall}
 use Rattle.rows.specs.declared.instruction.InstructionData.{InstructionData}

@@ -1,0 +1,14 @@
+pub mod Accepted
+pub mod AliasLoops
+pub mod Always
+pub mod Chains
+pub mod Changes
+pub mod Feeding
+pub mod Growth
+pub mod Kept
+pub mod Loops
+pub mod NoLoops
+pub mod Reaching
+pub mod Steps
+pub mod Sweeping
+pub mod Through
