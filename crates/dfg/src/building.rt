@@ -29,13 +29,7 @@ impl DataFlowGraph {
     pub fn new(heap: Global) -> Result<DataFlowGraph, AllocError>
         ensures { λ r. ⌜ made r (λ g. plain g ≡ empty) ⌝ }
     {
-        let values = Vec::with_capacity(heap, 1024)?;
-        let insts = Vec::with_capacity(heap, 1024)?;
-        let tables = Tables {
-            values,
-            insts,
-            blocks: 0,
-        };
+        let tables = Tables::with_room(heap)?;
         Ok(DataFlowGraph { tables })
     }
 

@@ -9,7 +9,8 @@ ghost use denote.Follow.{follows};
 ghost use denote.Ref.{name};
 ghost use Rattle.std.specs.Changed.{with-item};
 ghost use Rattle.std.specs.Of.Vec.{vec-items, vec-len, vec-cap};
-ghost use Rattle.rows.specs.Rows.{original, erased};
+ghost use Rattle.std.specs.Vec.{made};
+ghost use Rattle.rows.specs.Rows.{original, erased, empty};
 ghost use Rattle.rows.specs.WellFormed.{Settled};
 ghost use Rattle.rows.specs.contracts.instruction.InstructionData.{the-row as inst-row};
 ghost use Rattle.calls.specs.Calls.{AppendBlockParam, AppendInst, ClearResults, ChangeToAlias, ResolveAllAliases, instOf};
@@ -31,6 +32,8 @@ use ir::Value;
 use rows::InstructionData;
 use rows::Results;
 use rows::ValueData;
+use std::alloc::AllocError;
+use std::alloc::Global;
 
 /// 1 for the row of a parameter of the block, 0 for any other.
 fn param_tally(row: ValueData, block: Block) -> u16
@@ -43,6 +46,19 @@ fn param_tally(row: ValueData, block: Block) -> u16
 }
 
 impl Tables {
+    /// Empty tables, with room for all that they may ever hold.
+    pub(crate) fn with_room(heap: Global) -> Result<Tables, AllocError>
+        ensures { λ r. ⌜ made r (λ t. (held t ≡ empty) × Room t) ⌝ }
+    {
+        let values = Vec::with_capacity(heap, 1024)?;
+        let insts = Vec::with_capacity(heap, 1024)?;
+        Ok(Tables {
+            values,
+            insts,
+            blocks: 0,
+        })
+    }
+
     /// How many parameters the block has.
     fn num_block_params(&self, block: Block) -> u16
         requires { ⌜ length (vec-items (now self .values)) ≤ 1024 ⌝ }

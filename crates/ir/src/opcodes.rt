@@ -5,7 +5,7 @@ ghost use Rattle.ir.specs.Codes.{opcodeCode, opcodeName, opcodeWord, opcodeAt}
 use crate::words::Word;
 
 /// The opcodes, in the order of their codes.
-#[derive(Clone, Copy, PartialEq, Eq, Debug)]
+#[derive(Clone, Copy)]
 pub enum Opcode {
     Iconst,
     Iadd,

@@ -2,7 +2,7 @@ ghost use mathlib.Core.Path.{_≡_};
 ghost use Rattle.ir.specs.Codes.{causeNumber, causeMeaning};
 
 /// Why a call is refused, in the order of the numbers.
-#[derive(Clone, Copy, PartialEq, Eq, Debug)]
+#[derive(Clone, Copy)]
 pub enum Cause {
     /// Nothing live is there.
     NotLive = 1,
@@ -84,7 +84,7 @@ impl Cause {
 }
 
 /// Why a call was refused, and the place that this speaks of, 0 where it speaks of none.
-#[derive(Clone, Copy, PartialEq, Eq, Debug)]
+#[derive(Clone, Copy)]
 pub struct Refusal {
     pub cause: Cause,
     pub place: u32,

@@ -1,3 +1,4 @@
 pub mod Pieces
 pub mod Readings
 pub mod Turns
+pub mod ReadBack

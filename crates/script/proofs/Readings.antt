@@ -43,7 +43,7 @@ module _ (limit : ℕ) (word : List ℕ) (i n : ℕ) (h : below limit (decimalAf
 
 -- ---- a prefix
 
-behind-front : (p w : List ℕ) → behind p (p ++ w) ≡ Some w
+pub behind-front : (p w : List ℕ) → behind p (p ++ w) ≡ Some w
 behind-front [] w = refl
 behind-front (b ∷ p) w = cond-true _ _ _ (eq-eqb b b refl) ∙ behind-front p w
 

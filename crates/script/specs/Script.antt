@@ -126,8 +126,8 @@ abbrev pub lineOf : List (List ℕ) → Line
 lineOf [] = Skipped
 lineOf (w ∷ ws) = cond (isComment w) Skipped (saying (andThen (keywordOf w) (λ keyword. callBehind keyword ws)))
 
--- the calls of the lines, behind those of the lines before, which are n
--- or the number of the first line that cannot be read
+-- the calls of lines that stand behind n lines, of which `said` are the calls: all calls, or the number of the first line
+-- that cannot be read
 abbrev pub linesOf : List Call → ℕ → List (List ℕ) → Result (List Call) ℕ
 linesOf said n [] = Ok said
 linesOf said n (l ∷ ls) =
@@ -160,5 +160,6 @@ ReadsScript (Ok calls) said = said ≡ Ok (map callOf (vec-items calls))
 ReadsScript (Err (script-error.Line n)) said = said ≡ Err n
 ReadsScript (Err script-error.Memory) said = Unit {0}
 
+-- what the items that were read say
 abbrev pub itemsSaid : Items → ItemsSaid
 itemsSaid items = record { args = vec-items (items .args); imm = items .imm; cond = items .cond }

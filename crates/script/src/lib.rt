@@ -41,14 +41,18 @@
 //!
 //! `specs/` says all this once more, as a grammar over bytes: `Text` the lines and words, `Numbers` the numbers and
 //! entities, `Names` the names, `Script` the calls and the lines. [`read_script`] is proved to answer what `scriptOf`
-//! there says of the text, whatever the text.
+//! there says of the text, whatever the text, unless memory runs out. [`script_stands`] is the theorem that every list of
+//! calls whose numbers fit their types can be written, and reads as itself; `Spelled` says how it is written.
 pub mod error;
 mod items;
+pub mod laws;
 mod line;
 mod names;
 mod numbers;
 pub mod script;
-mod text;
+pub mod text;
 
 pub use error::ScriptError;
+pub use laws::script_stands;
 pub use script::read_script;
+pub use text::line_at;

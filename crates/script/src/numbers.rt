@@ -1,5 +1,6 @@
 ghost use mathlib.Core.Path.{_≡_};
-ghost use Prim.Native.Nat.{ℕ, _^_};
+ghost use mathlib.Core.Bool.{true};
+ghost use Prim.Native.Nat.{_+_, _-_, _*_};
 ghost use Rattle.std.specs.Options.{mapped};
 ghost use Rattle.script.specs.Numbers.{isDigit, number, behind, numbered, blockOf, instOf, valueOf, immediateOf};
 use ir::Block;
@@ -19,6 +20,14 @@ fn is_digit(byte: u8) -> bool
     byte >= b'0' && byte <= b'9'
 }
 
+/// The number that a digit writes behind those that write `n`.
+fn with_digit(n: u64, byte: u8) -> u128
+    requires { ⌜ isDigit byte ≡ true ⌝ }
+    ensures { λ r. ⌜ r ≡ n * 10 + (byte - 48) ⌝ }
+{
+    n as u128 * 10 + (byte - b'0') as u128
+}
+
 /// The decimal number below the limit that the word writes.
 pub(crate) fn read_decimal(word: &[u8], limit: u64) -> Option<u64>
     ensures { λ r. ⌜ r ≡ number limit (now (word .entry)) ⌝ }
@@ -31,7 +40,7 @@ pub(crate) fn read_decimal(word: &[u8], limit: u64) -> Option<u64>
         if !is_digit(*byte) {
             return None;
         }
-        let more = n as u128 * 10 + (*byte - b'0') as u128;
+        let more = with_digit(n, *byte);
         if more >= limit as u128 {
             return None;
         }

@@ -1,7 +1,7 @@
 ghost use mathlib.Core.Path.{_≡_};
 ghost use mathlib.Core.Bool.{true, false};
-ghost use mathlib.Core.List.{_∷_};
-ghost use Prim.Native.Nat.{_≤_, _<_};
+ghost use mathlib.Core.List.{[], _∷_};
+ghost use Prim.Native.Nat.{_-_, _≤_, _<_};
 ghost use lib.ListN.{length, getD, take, drop};
 ghost use Rattle.std.specs.Options.{mapped};
 ghost use Rattle.script.specs.Text.{isSpace, isFeed, before, words, lines, linesAfter, first, others};
@@ -89,4 +89,21 @@ pub(crate) fn cut_line<'a>(text: &'a [u8]) -> (&'a [u8], &'a [u8])
         [] => (line, rest),
         [_, after @ ..] => (line, after),
     }
+}
+
+/// The line of a number, from 1, and nothing where the text has fewer lines. For 0 it is the first.
+pub fn line_at<'a>(text: &'a [u8], number: usize) -> &'a [u8]
+    ensures { λ r. ⌜ now r ≡ getD (lines (now (text .entry))) (number - 1) [] ⌝ }
+{
+    let mut before = number.saturating_sub(1);
+    let mut rest = text;
+    while !rest.is_empty() {
+        let (line, after) = cut_line(rest);
+        if before == 0 {
+            return line;
+        }
+        before -= 1;
+        rest = after;
+    }
+    rest
 }

@@ -1,5 +1,4 @@
 use mathlib.Core.Path.{refl, sym, _∙_}
-use native.Mathlib.Omega.{arith}
 use borrow.Author.Needs.{needs}
 use Rattle.ir.specs.Codes.{intccName, intccs}
 use Rattle.script.specs.Names.{conditionNamed}

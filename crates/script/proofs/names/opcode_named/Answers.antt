@@ -1,5 +1,4 @@
 use mathlib.Core.Path.{refl, sym, _∙_}
-use native.Mathlib.Omega.{arith}
 use borrow.Author.Needs.{needs}
 use Rattle.ir.specs.Codes.{opcodeName, opcodes}
 use Rattle.script.specs.Names.{opcodeNamed}
