@@ -4,16 +4,14 @@ ghost use Prim.Native.Nat.{_≤_, _<_};
 ghost use lib.ListN.{length};
 ghost use Rattle.std.specs.Vec.{made};
 ghost use Rattle.rows.specs.Rows.{empty};
-ghost use Rattle.calls.specs.Calls.{MakeBlock, AppendBlockParam, AppendInst, ClearResults, ChangeToAlias, ResolveAllAliases, instOf, callOf};
+ghost use Rattle.calls.specs.Calls.{MakeBlock, AppendBlockParam, AppendInst, ClearResults, ChangeToAlias, ResolveAllAliases, instOf};
 ghost use Rattle.plain.specs.AliasLoops.{JudgedByLoops};
 ghost use Rattle.dfg.specs.Plain.{plain};
-ghost use Rattle.plain.specs.Feed.{fed, fedWith, answered, nextBlock, nextValue, nextInst, answerTo};
+ghost use Rattle.plain.specs.Feed.{fed, fedWith, answered, nextBlock, nextValue, nextInst};
 ghost use Rattle.plain.specs.Marks.{marksAfter};
 use crate::checks::refuse;
 use crate::dfg::DataFlowGraph;
 use crate::tables::Tables;
-use calls::Answer;
-use calls::BuildCall;
 use calls::NewInst;
 use ir::Block;
 use ir::Cause;
@@ -120,32 +118,5 @@ impl DataFlowGraph {
         ensures { λ _. ⌜ plain (now (self .exit)) ≡ fed (plain (now (self .entry))) ResolveAllAliases ⌝ }
     {
         self.tables.resolve_all();
-    }
-
-    /// Does a building call over lent marks, and answers what it made.
-    pub fn apply(&mut self, call: &BuildCall, marks: &mut [u8]) -> Result<Answer, Refusal>
-        ensures after { λ _. ⌜ plain (now (self .exit)) ≡ fedWith (length (now (marks .entry))) (plain (now (self .entry))) (callOf (now (call .entry))) ⌝ }
-        ensures value { λ r. ⌜ r ≡ answered (length (now (marks .entry))) (plain (now (self .entry))) (callOf (now (call .entry))) (answerTo (plain (now (self .entry))) (callOf (now (call .entry)))) ⌝ }
-        ensures marks { λ _. ⌜ now (marks .exit) ≡ marksAfter (plain (now (self .entry))) (callOf (now (call .entry))) (now (marks .entry)) ⌝ }
-    {
-        match call {
-            BuildCall::MakeBlock => Ok(Answer::Block(self.make_block()?)),
-            BuildCall::AppendBlockParam(block, ty) => {
-                Ok(Answer::Value(self.append_block_param(*block, *ty)?))
-            }
-            BuildCall::AppendInst(new) => Ok(Answer::Inst(self.append_inst(new)?)),
-            BuildCall::ClearResults(inst) => {
-                self.clear_results(*inst)?;
-                Ok(Answer::Done)
-            }
-            BuildCall::ChangeToAlias(dest, src) => {
-                self.change_to_alias(*dest, *src, marks)?;
-                Ok(Answer::Done)
-            }
-            BuildCall::ResolveAllAliases => {
-                self.resolve_all_aliases();
-                Ok(Answer::Done)
-            }
-        }
     }
 }

@@ -1,7 +1,6 @@
 //! The data-flow graph of a function, and the calls that build it.
 mod alias_loops;
 mod building;
-mod built;
 mod checks;
 mod decode;
 pub mod dfg;
@@ -10,6 +9,4 @@ pub mod finders;
 pub mod queries;
 mod tables;
 
-pub use built::Built;
-pub use built::build;
 pub use dfg::DataFlowGraph;

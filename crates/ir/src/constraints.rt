@@ -6,7 +6,7 @@ use crate::opcodes::Opcode;
 use crate::types::Type;
 
 /// What an opcode asks of the count and the widths of its operands and of its result.
-#[derive(Clone, Copy, PartialEq, Eq, Debug)]
+#[derive(Clone, Copy)]
 pub enum OpcodeConstraints {
     /// no operand, an immediate, an integer result
     Constant,

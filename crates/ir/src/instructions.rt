@@ -1,10 +1,9 @@
 ghost use mathlib.Core.Path.{_≡_};
 ghost use Rattle.ir.specs.Entities.{argCount, operandsOf};
 use crate::entities::Value;
-use crate::entities::ValueDebug;
 
 /// The operands of an instruction, in order.
-#[derive(Clone, Copy, Debug)]
+#[derive(Clone, Copy)]
 pub enum Operands {
     Nullary,
     Unary(Value),

@@ -3,7 +3,6 @@ mod example;
 mod help;
 mod input;
 mod report;
-mod show;
 
 use dfg::queries::DataFlow;
 use dfg::queries::DataFlowLayout;
@@ -47,7 +46,7 @@ fn run_script(rt: &LibcRuntime, text: &[u8]) -> Result<(), AnyError> {
             return Err("the script cannot be read".into());
         }
     };
-    let built = dfg::build(rt.alloc(), calls.as_slice())?;
+    let built = building::build(rt.alloc(), calls.as_slice())?;
     print_answers(rt, calls.as_slice(), built.answers.as_slice())?;
     print_graph(rt, &built.graph)?;
     Ok(())

@@ -1,5 +1,4 @@
 // Prints what the calls answered, and the graph that they made.
-use crate::show::*;
 use calls::Answer;
 use calls::BuildCall;
 use flow::FlowGraph;
@@ -9,6 +8,15 @@ use ir::Block;
 use ir::Inst;
 use ir::Refusal;
 use ir::Value;
+use show::AnswerDisplay;
+use show::BlockDisplay;
+use show::BuildCallDisplay;
+use show::InstDisplay;
+use show::RefusalDisplay;
+use show::Show;
+use show::TypeDisplay;
+use show::ValueDefDisplay;
+use show::ValueDisplay;
 use std::io;
 
 /// Prints each call with its answer, one to a line.

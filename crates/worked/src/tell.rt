@@ -8,25 +8,15 @@ use ir::Inst;
 use ir::Refusal;
 use ir::Value;
 use script::read_script;
+use show::AnswerDisplay;
+use show::Show;
 use std::error::AnyError;
 use std::io;
 
 /// Prints one answer: what was made, or the refusal's number and place.
-pub(crate) fn print_answer(rt: &impl Print, answer: &Result<Answer, Refusal>) -> io::Result<()> {
+fn print_answer(rt: &impl Print, answer: &Result<Answer, Refusal>) -> io::Result<()> {
     match answer {
-        Ok(Answer::Block(block)) => {
-            let number = block.0;
-            print!(rt, " block{number}")
-        }
-        Ok(Answer::Value(value)) => {
-            let number = value.0;
-            print!(rt, " v{number}")
-        }
-        Ok(Answer::Inst(inst)) => {
-            let number = inst.0;
-            print!(rt, " inst{number}")
-        }
-        Ok(Answer::Done) => print!(rt, " done"),
+        Ok(answer) => print!(rt, " {}", Show(*answer)),
         Err(refusal) => print_refusal(rt, *refusal),
     }
 }
@@ -71,7 +61,7 @@ pub(crate) fn run_script(rt: &LibcRuntime, name: &str, script: &str) -> Result<(
     let Ok(calls) = read_script(rt.alloc(), script.as_bytes()) else {
         return Err("a case cannot be read".into());
     };
-    let built = dfg::build(rt.alloc(), calls.as_slice())?;
+    let built = building::build(rt.alloc(), calls.as_slice())?;
     for answer in built.answers.iter() {
         print_answer(rt, answer)?;
     }

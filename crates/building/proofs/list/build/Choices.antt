@@ -4,9 +4,9 @@ use lib.ListN.{take, length}
 use Rattle.std.specs.Of.Vec.{vec-items}
 use Rattle.rows.specs.Rows.{empty}
 use Rattle.calls.specs.Calls.{callOf}
 use Rattle.dfg.specs.Plain.{plain}
 use Rattle.plain.specs.Feed.{fedAll, answersTo}
-use Rattle.dfg.proofs.built.build.Given as given
+use Rattle.building.proofs.list.build.Given as given
 
 -- the calls so far made the graph and were answered
 abbrev pub Inv-loop-call : given.InvT-loop-call

@@ -1,4 +1,6 @@
-// What is printed, as it is written in a script where that is possible.
+//! How entities, types, calls, answers, refusals and definitions are printed: as a script writes them, where it can.
+//!
+//! `Show(x)` prints `x`. What is printed is tested by the programs that print it, and stated by no contract.
 use calls::Answer;
 use calls::BuildCall;
 use calls::NewInst;
@@ -15,30 +17,30 @@ use std::fmt;
 
 /// What is shown: an entity, a type, a call, an answer or a definition.
 #[derive(Clone, Copy)]
-pub(crate) struct Show<T>(pub(crate) T);
+pub struct Show<T>(pub T);
 
-pub(crate) impl fmt::Display for Show<Value> as ValueDisplay {
+pub impl fmt::Display for Show<Value> as ValueDisplay {
     fn fmt<W: fmt::Write>(&self, f: &mut fmt::Formatter<W>) -> fmt::Result {
         let Value(number) = self.0;
         write!(f, "v{number}")
     }
 }
 
-pub(crate) impl fmt::Display for Show<Inst> as InstDisplay {
+pub impl fmt::Display for Show<Inst> as InstDisplay {
     fn fmt<W: fmt::Write>(&self, f: &mut fmt::Formatter<W>) -> fmt::Result {
         let Inst(number) = self.0;
         write!(f, "inst{number}")
     }
 }
 
-pub(crate) impl fmt::Display for Show<Block> as BlockDisplay {
+pub impl fmt::Display for Show<Block> as BlockDisplay {
     fn fmt<W: fmt::Write>(&self, f: &mut fmt::Formatter<W>) -> fmt::Result {
         let Block(number) = self.0;
         write!(f, "block{number}")
     }
 }
 
-pub(crate) impl fmt::Display for Show<Type> as TypeDisplay {
+pub impl fmt::Display for Show<Type> as TypeDisplay {
     fn fmt<W: fmt::Write>(&self, f: &mut fmt::Formatter<W>) -> fmt::Result {
         match self.0 {
             Type::Invalid => f.write_str("invalid"),
@@ -93,7 +95,7 @@ impl fmt::Display for ConditionNumber as ConditionNumberDisplay {
     }
 }
 
-pub(crate) impl fmt::Display for Show<&NewInst> as NewInstDisplay {
+pub impl fmt::Display for Show<&NewInst> as NewInstDisplay {
     fn fmt<W: fmt::Write>(&self, f: &mut fmt::Formatter<W>) -> fmt::Result {
         let new = self.0;
         write!(f, "{} {}", Show(new.block), OpcodeNumber(new.opcode))?;
@@ -115,7 +117,7 @@ pub(crate) impl fmt::Display for Show<&NewInst> as NewInstDisplay {
     }
 }
 
-pub(crate) impl fmt::Display for Show<&BuildCall> as BuildCallDisplay {
+pub impl fmt::Display for Show<&BuildCall> as BuildCallDisplay {
     fn fmt<W: fmt::Write>(&self, f: &mut fmt::Formatter<W>) -> fmt::Result {
         match self.0 {
             BuildCall::MakeBlock => f.write_str("make_block"),
@@ -137,7 +139,7 @@ pub(crate) impl fmt::Display for Show<&BuildCall> as BuildCallDisplay {
     }
 }
 
-pub(crate) impl fmt::Display for Show<Answer> as AnswerDisplay {
+pub impl fmt::Display for Show<Answer> as AnswerDisplay {
     fn fmt<W: fmt::Write>(&self, f: &mut fmt::Formatter<W>) -> fmt::Result {
         match self.0 {
             Answer::Block(block) => write!(f, "{}", Show(block)),
@@ -148,7 +150,7 @@ pub(crate) impl fmt::Display for Show<Answer> as AnswerDisplay {
     }
 }
 
-pub(crate) impl fmt::Display for Show<Refusal> as RefusalDisplay {
+pub impl fmt::Display for Show<Refusal> as RefusalDisplay {
     fn fmt<W: fmt::Write>(&self, f: &mut fmt::Formatter<W>) -> fmt::Result {
         let Refusal { cause, place } = self.0;
         let number = cause.number();
@@ -157,7 +159,7 @@ pub(crate) impl fmt::Display for Show<Refusal> as RefusalDisplay {
     }
 }
 
-pub(crate) impl fmt::Display for Show<Operands> as OperandsDisplay {
+pub impl fmt::Display for Show<Operands> as OperandsDisplay {
     fn fmt<W: fmt::Write>(&self, f: &mut fmt::Formatter<W>) -> fmt::Result {
         match self.0 {
             Operands::Nullary => Ok(()),
@@ -168,7 +170,7 @@ pub(crate) impl fmt::Display for Show<Operands> as OperandsDisplay {
     }
 }
 
-pub(crate) impl fmt::Display for Show<ValueDef> as ValueDefDisplay {
+pub impl fmt::Display for Show<ValueDef> as ValueDefDisplay {
     fn fmt<W: fmt::Write>(&self, f: &mut fmt::Formatter<W>) -> fmt::Result {
         match self.0 {
             ValueDef::Constant(imm) => write!(f, "iconst {imm}"),

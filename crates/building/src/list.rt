@@ -4,11 +4,12 @@ ghost use Rattle.std.specs.Of.Vec.{vec-items};
 ghost use Rattle.std.specs.Vec.{made};
 ghost use Rattle.rows.specs.Rows.{empty};
 ghost use Rattle.calls.specs.Calls.{callOf};
 ghost use Rattle.dfg.specs.Plain.{plain};
 ghost use Rattle.plain.specs.Feed.{fedAll, answersTo};
-use crate::dfg::DataFlowGraph;
+use crate::one::apply;
 use calls::Answer;
 use calls::BuildCall;
+use dfg::DataFlowGraph;
 use ir::Refusal;
 use std::alloc::AllocError;
 use std::alloc::Global;
@@ -29,7 +30,7 @@ pub fn build(heap: Global, calls: &[BuildCall]) -> Result<Built, AllocError>
     let mut answers = Vec::new(heap);
     let mut marks = [0; 1024];
     for call in calls {
-        answers.push(graph.apply(call, &mut marks))?;
+        answers.push(apply(&mut graph, call, &mut marks))?;
     }
     Ok(Built { graph, answers })
 }

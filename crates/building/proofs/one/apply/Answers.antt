@@ -6,16 +6,16 @@ use Rattle.std.proofs.shelf.Results.{err-from-errBy}
 use Rattle.rows.specs.Rows.{Rows}
 use Rattle.calls.specs.Calls.{Call, AppendBlockParam, AppendInst, ChangeToAlias, callOf, instOf}
 use Rattle.calls.specs.declared.answer.Answer.the-variants as made
 use Rattle.dfg.specs.Plain.{plain}
 use Rattle.plain.specs.Feed.{fedWith, nextValue, nextInst}
 use Rattle.plain.specs.Marks.{marksAfter}
 use Rattle.plain.proofs.Feeding.{refused-as, given-as}
-use Rattle.dfg.proofs.dfg.DataFlowGraph.apply.Needs as need
+use Rattle.building.proofs.one.apply.Needs as need
 
 pub returns-in-Break-append-block-param : need.returns-in-Break-append-block-param
 returns-in-Break-append-block-param c =
     let m : ℕ = length (c .args .marks .now) in
-    let p : Rows = plain (c .args .self .now) in
+    let p : Rows = plain (c .args .graph .now) in
     let call : Call = AppendBlockParam (c .in-AppendBlockParam .block) (c .in-AppendBlockParam .ty) in
     let is : callOf (c .args .call .now) ≡ call = ap callOf (c .in-AppendBlockParam .is) in
     let gone = err-from-errBy (c .from-residual-in-Break-append-block-param .result) (c .from-residual-in-Break-append-block-param .ensures .1) in
@@ -28,7 +28,7 @@ returns-in-Break-append-block-param c =
 pub returns-in-Break-append-inst : need.returns-in-Break-append-inst
 returns-in-Break-append-inst c =
     let m : ℕ = length (c .args .marks .now) in
-    let p : Rows = plain (c .args .self .now) in
+    let p : Rows = plain (c .args .graph .now) in
     let call : Call = AppendInst (instOf (c .in-AppendInst .new)) in
     let is : callOf (c .args .call .now) ≡ call = ap callOf (c .in-AppendInst .is) in
     let gone = err-from-errBy (c .from-residual-in-Break-append-inst .result) (c .from-residual-in-Break-append-inst .ensures .1) in
@@ -41,7 +41,7 @@ returns-in-Break-append-inst c =
 pub returns-in-Continue-append-inst : need.returns-in-Continue-append-inst
 returns-in-Continue-append-inst c =
     let m : ℕ = length (c .args .marks .now) in
-    let p : Rows = plain (c .args .self .now) in
+    let p : Rows = plain (c .args .graph .now) in
     let call : Call = AppendInst (instOf (c .in-AppendInst .new)) in
     let is : callOf (c .args .call .now) ≡ call = ap callOf (c .in-AppendInst .is) in
     record {
@@ -53,7 +53,7 @@ returns-in-Continue-append-inst c =
 pub returns-in-Break-change-to-alias : need.returns-in-Break-change-to-alias
 returns-in-Break-change-to-alias c =
     let m : ℕ = length (c .args .marks .now) in
-    let p : Rows = plain (c .args .self .now) in
+    let p : Rows = plain (c .args .graph .now) in
     let call : Call = ChangeToAlias (c .in-ChangeToAlias .dest) (c .in-ChangeToAlias .src) in
     let is : callOf (c .args .call .now) ≡ call = ap callOf (c .in-ChangeToAlias .is) in
     let gone = err-from-errBy (c .from-residual-in-Break-change-to-alias .result) (c .from-residual-in-Break-change-to-alias .ensures .1) in
@@ -66,7 +66,7 @@ returns-in-Break-change-to-alias c =
 pub returns-in-Continue-change-to-alias : need.returns-in-Continue-change-to-alias
 returns-in-Continue-change-to-alias c =
     let m : ℕ = length (c .args .marks .now) in
-    let p : Rows = plain (c .args .self .now) in
+    let p : Rows = plain (c .args .graph .now) in
     let call : Call = ChangeToAlias (c .in-ChangeToAlias .dest) (c .in-ChangeToAlias .src) in
     let is : callOf (c .args .call .now) ≡ call = ap callOf (c .in-ChangeToAlias .is) in
     record {

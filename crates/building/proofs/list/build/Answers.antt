@@ -7,10 +7,10 @@ use Rattle.std.proofs.shelf.Lists.{take-all, take-more}
 use Rattle.rows.specs.Rows.{Rows, empty}
 use Rattle.calls.specs.Calls.{Call, callOf}
 use Rattle.calls.specs.declared.call.BuildCall.{BuildCall}
 use Rattle.dfg.specs.Plain.{plain}
 use Rattle.plain.specs.Feed.{fed, fedWith, fedAll, answersTo, answered, answerTo}
 use Rattle.plain.proofs.Feeding.{fed-more, answers-more}
-use Rattle.dfg.proofs.built.build.Needs as need
+use Rattle.building.proofs.list.build.Needs as need
 
 pub loop-call-again : need.loop-call-again
 loop-call-again c =
