@@ -1,22 +1,21 @@
 -- What the visitors that look for loops know after one value more, and after a walk. Assumes nothing.
-use mathlib.Core.Path.{_≡_, refl, sym, ap, subst, _∙_}
-use mathlib.Core.Bool.{Bool, true, false, cond, not, _&&_, _||_}
+use mathlib.Core.Path.{_≡_, sym, ap, subst, _∙_}
+use mathlib.Core.Bool.{Bool, true, false, not, _&&_, _||_}
 use mathlib.Core.List.{List, [], _∷_, _++_}
-use mathlib.Core.Logic.{_⊎_, inl, inr, ⊎-elim}
-use Prim.Native.Nat.{ℕ, zero, suc, _+_, _<_, _≤_}
+use mathlib.Core.Logic.{_⊎_, ⊎-elim}
+use Prim.Native.Nat.{ℕ, _+_, _<_}
 use native.Mathlib.Omega.{arith}
 use lib.Dec.{eqb}
-use lib.ListN.{length, getD, set, replicate, length-set, length-replicate}
+use lib.ListN.{getD, set, replicate, length-set, length-replicate}
 use lib.Seq.{getD-set-same, getD-set-other}
 use Rattle.std.specs.declared.result.Result.the-variants.{Err}
 use Rattle.std.proofs.shelf.Lists.{getD-replicate}
-use Rattle.std.proofs.shelf.Tests.{both-ways, cases-bool, cases-eq, or-cases, or-left, or-right, eq-eqb, eqb-true, false≢true}
-use Rattle.flow.specs.Meaning.{Flow, Lawful, Reach, here, through as further, uses, has, live}
+use Rattle.std.proofs.shelf.Tests.{cases-eq}
+use Rattle.flow.specs.Meaning.{Flow, Lawful, uses, has}
 use Rattle.flow.specs.Walk.{walk, Topological}
-use Rattle.flow.proofs.Among.{has-here, has-push, has-push-other}
+use Rattle.flow.proofs.Among.{has-push, has-push-other}
 use Rattle.flow.proofs.Paths.{live-exists}
 use Rattle.flow.proofs.Places.{topological-left, topological-operands}
-use Rattle.flow.proofs.Walks.{walk-is-post-order}
 use Rattle.rows.specs.Meaning.{flow}
 use Rattle.rows.specs.Rows.{Rows}
 use Rattle.rows.specs.declared.value.ValueData.{ValueData}
@@ -25,7 +24,7 @@ use Rattle.walk.specs.declared.dfs.WalkError.{WalkError}
 use Rattle.walk.specs.declared.dfs.WalkError.the-variants as errors
 use Rattle.dfg.specs.declared.finders.Found.{Found}
 use Rattle.dfg.specs.Finders.{MarksOf, Marked, NoneThrough, markedBut}
-use Rattle.plain.specs.Loops.{through, anyThrough, anyOf, reachesThrough, closes, firstFrom}
+use Rattle.plain.specs.Loops.{through, anyThrough, anyOf, reachesThrough, closes}
 use Rattle.plain.proofs.Through.{any-push, any-front}
 use Rattle.plain.proofs.Reaching.{any-same, reaches-unfolds}
 

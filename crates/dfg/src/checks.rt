@@ -3,7 +3,7 @@ ghost use mathlib.Core.Path.{_≡_};
 ghost use mathlib.Core.Bool.{_||_};
 ghost use Prim.Native.Nat.{_+_};
 ghost use lib.Dec.{leb, ltb};
-ghost use lib.ListN.{length, getD};
+ghost use lib.ListN.{length};
 ghost use Rattle.rows.specs.Rows.{valueAt, instAt, typeIn, widthAt, live, allLive, widthsOf, original, lists};
 ghost use Rattle.rows.specs.WellFormed.{Few, Settled};
 ghost use Rattle.calls.specs.Calls.{AppendInst, ChangeToAlias, instOf};

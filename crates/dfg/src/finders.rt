@@ -3,7 +3,7 @@ ghost use denote.Ref.{now as behind};
 ghost use mathlib.Core.Path.{_≡_};
 ghost use mathlib.Core.Bool.{true, false, _||_};
 ghost use Prim.Native.Nat.{_<_};
-ghost use lib.ListN.{length, getD, set};
+ghost use lib.ListN.{getD, set};
 ghost use Rattle.ir.specs.Entities.{values};
 ghost use Rattle.std.specs.Of.Vec.{vec-items};
 ghost use Rattle.flow.specs.Meaning.{uses};

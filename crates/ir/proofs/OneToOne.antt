@@ -10,9 +10,7 @@ use lib.ListN.{getD}
 use Rattle.std.proofs.shelf.Tests.{eqb-true}
 use Rattle.std.specs.declared.option.Option.{Option}
 use Rattle.std.specs.declared.option.Option.the-variants.{Some, None}
-use Rattle.ir.specs.Codes.{opcodeCode, opcodes, opcodeAt, intccCode, intccs, intccAt, typeBits, typeAt, causeNumber, OpcodeCodes, IntCCCodes, TypeBits, CauseNumbers}
-use Rattle.ir.specs.declared.opcodes.Opcode.{Opcode}
-use Rattle.ir.specs.declared.condcodes.IntCC.{IntCC}
+use Rattle.ir.specs.Codes.{opcodeCode, opcodes, intccCode, intccs, typeBits, typeAt, causeNumber, OpcodeCodes, IntCCCodes, TypeBits, CauseNumbers}
 use Rattle.ir.specs.declared.refusal.Cause.{Cause}
 use Rattle.ir.specs.declared.refusal.Cause.the-variants.{NotLive, Unknown, WrongCount, Widths, Immediate, TableFull, Attached, ResolvesToDestination, Loop, NotPinnable, PinsFull, NotRecords, BrokenLayout, TooShort, NotInteger, InputTooWide, Trapped, Undefined, BadName, WidthCheck}
 use Rattle.ir.specs.declared.types.Type as T

@@ -1,6 +1,6 @@
 -- What the opcodes ask of counts, widths and immediates, as tests; operations of one kind ask the same.
 -- Assumes nothing.
-use mathlib.Core.Bool.{Bool, true, false, _&&_}
+use mathlib.Core.Bool.{Bool, true, _&&_}
 use Prim.Native.Nat.{ℕ}
 use lib.Dec.{eqb, ltb, leb}
 use lib.IntN.{ℤ}

@@ -1,13 +1,12 @@
 -- What is known of a call that no check refuses. Assumes nothing.
-use mathlib.Core.Path.{_≡_, refl, sym, ap, subst, _∙_}
-use mathlib.Core.List.{List, [], _∷_, _++_, map}
-use mathlib.Core.Bool.{Bool, true, false, cond, not, _&&_, _||_}
-use mathlib.Core.Logic.{_⊎_, inl, inr, _≢_}
-use Prim.Native.Nat.{ℕ, zero, suc, _≤_, _<_, _+_, _-_}
+use mathlib.Core.Path.{_≡_, refl, sym, subst}
+use mathlib.Core.List.{List, [], _∷_}
+use mathlib.Core.Bool.{Bool, true, false, cond}
+use mathlib.Core.Logic.{_≢_}
+use Prim.Native.Nat.{ℕ, _≤_, _<_, _+_}
 use native.Mathlib.Omega.{arith}
-use lib.ListN.{length, getD, set}
-use lib.Dec.{eqb, ltb, leb}
-use Rattle.std.specs.shelf.Lists.{All, countBy}
+use lib.ListN.{length}
+use Rattle.std.specs.shelf.Lists.{All}
 use Rattle.std.specs.declared.option.Option.{Option}
 use Rattle.std.specs.declared.option.Option.the-variants.{Some, None}
 use Rattle.std.specs.Options.{isSome, valueOr}
@@ -24,7 +23,7 @@ use Rattle.ir.specs.declared.refusal.Refusal.{Refusal}
 use Rattle.rows.specs.Rows.{Rows, allLive, live, widthAt, original}
 use Rattle.plain.specs.Attached.{attached}
 use Rattle.plain.specs.Feed.{first, checks, constraintsIn, argsOf, typesKnown, firstType, newWidthsFit}
-use Rattle.calls.specs.Calls.{MakeBlock, AppendBlockParam, AppendInst, ChangeToAlias}
+use Rattle.calls.specs.Calls.{AppendBlockParam, AppendInst, ChangeToAlias}
 use Rattle.calls.specs.Calls.{InstCall}
 
 -- where no cause is found, none stands

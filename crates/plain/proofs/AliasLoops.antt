@@ -1,6 +1,6 @@
 -- A new alias is refused for a loop exactly if the altered graph would have one, at the lowest value in one. Assumes nothing.
 use mathlib.Core.Path.{_≡_, refl, sym, ap, subst, _∙_}
-use mathlib.Core.Bool.{Bool, true, false, cond, not, _&&_, _||_}
+use mathlib.Core.Bool.{Bool, true, false, cond, not}
 use mathlib.Core.List.{List}
 use mathlib.Core.Logic.{_⊎_, inl, inr, _≢_}
 use Prim.Native.Nat.{ℕ, zero, suc, _+_, _≤_, _<_}
@@ -8,16 +8,14 @@ use native.Mathlib.Omega.{arith}
 use lib.Dec.{eqb}
 use lib.ListN.{length, getD}
 use Rattle.std.specs.shelf.Lists.{countBy}
-use Rattle.std.specs.declared.option.Option.{Option}
 use Rattle.std.specs.declared.option.Option.the-variants.{Some, None}
-use Rattle.std.proofs.shelf.Tests.{cases-bool, cases-eq, cases-lt, and-parts, and-from, not-true, ne-eqb, eqb-false, eqb-true, or-cases, false≢true}
+use Rattle.std.proofs.shelf.Tests.{cases-bool, and-parts, and-from, not-true, ne-eqb, eqb-false, eqb-true, or-cases, false≢true}
 use Rattle.ir.specs.declared.entities.Value.{Value}
 use Rattle.ir.specs.declared.refusal.Cause.the-variants.{Loop}
 use Rattle.flow.specs.Meaning.{Flow, Lawful, Reach, here, through as further, used, uses, has, live}
 use Rattle.flow.proofs.Paths.{live-exists}
 use Rattle.flow.proofs.Walks.{walk-is-post-order}
 use Rattle.rows.specs.Meaning.{flow, defIn}
-use Rattle.flow.specs.Walk.{walk}
 use Rattle.rows.specs.Rows.{Rows, valueAt, stepIn, isAlias, follow, original, originalIn}
 use Rattle.rows.specs.WellFormed.{WellFormed, Settled}
 use Rattle.rows.proofs.Aliases.{Ends, one-end}
@@ -29,8 +27,8 @@ use Rattle.plain.specs.AliasLoops.{InLoop, LowestInLoop, Judged}
 use Rattle.plain.specs.Feed.{first, checks, grown, answerUnless}
 use Rattle.plain.specs.Loops.{leads, through, reachesThrough, closes, firstFrom, lowestInLoop, loopRefusal}
 use Rattle.plain.proofs.Accepted.{alias-accepted}
-use Rattle.plain.proofs.Kept.{alias-kept, no-refusal}
-use Rattle.plain.proofs.Loops.{Path, one, more, Loopless, Comes, reach-path, path-reach, loopless, no-loop, looped, in-loop}
+use Rattle.plain.proofs.Kept.{alias-kept}
+use Rattle.plain.proofs.Loops.{Path, one, more, Loopless, Comes, reach-path, path-reach, looped, in-loop}
 use Rattle.plain.proofs.NoLoops.{usesIn, uses-are, rows-loopless, taken, left}
 use Rattle.plain.proofs.Reaching.{reaches-some, some-reaches}
 use Rattle.plain.proofs.Through.{through-end}

@@ -1,6 +1,5 @@
 -- Whatever calls are fed to it, the plain graph stays well-formed, and so lawful. Assumes nothing.
-use mathlib.Core.Path.{_≡_, refl, sym, ap, subst, _∙_}
-use mathlib.Core.Bool.{Bool, true, false}
+use mathlib.Core.Path.{_≡_, refl, sym, ap, subst}
 use mathlib.Core.List.{List, [], _∷_}
 use Prim.Native.Nat.{ℕ}
 use native.Mathlib.Omega.{arith}
@@ -8,7 +7,6 @@ use lib.ListN.{length}
 use Rattle.std.specs.declared.option.Option.{Option}
 use Rattle.std.specs.declared.option.Option.the-variants.{Some, None}
 use Rattle.std.proofs.shelf.Tests.{leb-false}
-use Rattle.ir.specs.declared.entities.Value.{Value}
 use Rattle.ir.specs.declared.refusal.Refusal.{Refusal}
 use Rattle.rows.specs.Meaning.{flow}
 use Rattle.rows.specs.Rows.{Rows, empty, original}
@@ -16,7 +14,7 @@ use Rattle.rows.specs.WellFormed.{WellFormed}
 use Rattle.rows.proofs.Lawfulness.{lawful, laid-out}
 use Rattle.calls.specs.Calls.{Call, MakeBlock, AppendBlockParam, AppendInst, ClearResults, ChangeToAlias, ResolveAllAliases}
 use Rattle.plain.specs.AliasLoops.{Judged}
-use Rattle.plain.specs.Feed.{first, checks, orElse, lastCheck, refusal, grown, fedUnless, fedWith, fedAll, fed, answerUnless}
+use Rattle.plain.specs.Feed.{first, checks, orElse, lastCheck, refusal, grown, fedUnless, fedAll, fed, answerUnless}
 use Rattle.plain.specs.Loops.{loopRefusal, reachesThrough}
 use Rattle.plain.specs.Theorems.{StaysWellFormed, AlwaysLawful, AliasesJudged}
 use Rattle.plain.proofs.Accepted.{none-stands}

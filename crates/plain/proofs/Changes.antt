@@ -1,19 +1,17 @@
 -- The calls that change rows in place keep a plain graph sound. Assumes nothing.
 use mathlib.Core.Path.{_≡_, refl, sym, ap, subst, _∙_}
-use mathlib.Core.List.{List, [], _∷_, _++_, map}
-use mathlib.Core.Bool.{Bool, true, false, cond, not, _&&_, _||_}
-use mathlib.Core.Logic.{_⊎_, inl, inr, _≢_}
-use Prim.Native.Nat.{ℕ, zero, suc, _≤_, _<_, _+_, _-_}
+use mathlib.Core.List.{List, [], _∷_, map}
+use mathlib.Core.Bool.{true, false, _&&_}
+use mathlib.Core.Logic.{inl, inr}
+use Prim.Native.Nat.{ℕ, zero, suc, _≤_, _<_}
 use native.Mathlib.Omega.{arith}
 use lib.ListN.{length, getD, set}
-use lib.Dec.{eqb, ltb, leb}
-use Rattle.std.specs.shelf.Lists.{All, countBy}
-use Rattle.std.specs.declared.option.Option.{Option}
-use Rattle.std.specs.declared.option.Option.the-variants.{Some, None}
+use lib.Dec.{ltb}
+use Rattle.std.specs.shelf.Lists.{countBy}
+use Rattle.std.specs.declared.option.Option.the-variants.{None}
 use Rattle.std.proofs.shelf.Lists.{length-set, length-map, getD-set-same, getD-set-other}
-use Rattle.std.proofs.shelf.Tests.{and-parts, and-from, or-left, or-right, eqb-true, eq-eqb, cases-eq, false≢true}
+use Rattle.std.proofs.shelf.Tests.{and-parts, and-from, eqb-true, eq-eqb, cases-eq, false≢true}
 use Rattle.ir.specs.Codes.{typeBits}
-use Rattle.ir.specs.declared.entities.Block.{Block}
 use Rattle.ir.specs.declared.entities.Inst.{Inst as Ir·Inst}
 use Rattle.ir.specs.declared.entities.Value.{Value}
 use Rattle.ir.specs.declared.instructions.Operands.{Operands}
@@ -21,8 +19,8 @@ use Rattle.ir.specs.declared.instructions.Operands.the-variants.{Nullary, Unary
 use Rattle.ir.specs.declared.types.Type as T
 use Rattle.ir.specs.Constraints.{constraintsOf, argCountFits, widthsFit, immediateFits}
 use Rattle.ir.specs.Entities.{argCount}
-use Rattle.rows.specs.Rows.{Rows, valueAt, instAt, noInst, typeIn, widthIn, widthAt, live, allLive, widthsOf, isAlias, original, lists, names, erased}
-use Rattle.rows.specs.WellFormed.{Sound, BlocksFit, valueFits, resultFits, fitsWith, resultsFit, ValuesFit}
+use Rattle.rows.specs.Rows.{Rows, valueAt, instAt, noInst, typeIn, widthIn, widthAt, allLive, widthsOf, isAlias, original, lists, names, erased}
+use Rattle.rows.specs.WellFormed.{Sound, BlocksFit, valueFits, resultFits, fitsWith, resultsFit}
 use Rattle.rows.proofs.Lawfulness.{live-in, width-follow}
 use Rattle.plain.specs.Attached.{attached, attachedIn, cleared, mapArgs, rewritten}
 use Rattle.plain.specs.Feed.{first, checks, grown}
@@ -31,7 +29,6 @@ use Rattle.plain.proofs.Chains.{settled-aliased, settled-erased}
 use Rattle.plain.proofs.Growth.{Keeps, OverInsts, over, over-inst, over-param, all-live-kept, arg-widths-kept, listed-kept}
 use Rattle.calls.specs.Calls.{ClearResults, ChangeToAlias, ResolveAllAliases}
 use Rattle.rows.specs.declared.instruction.InstructionData.{InstructionData}
-use Rattle.rows.specs.declared.instruction.Results.{Results}
 use Rattle.rows.specs.declared.instruction.Results.the-variants as results
 use Rattle.rows.specs.declared.value.ValueData.{ValueData}
 use Rattle.rows.specs.declared.value.ValueData.the-variants.{Inst, Param, Alias, Union, Deleted}

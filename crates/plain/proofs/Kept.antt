@@ -1,11 +1,10 @@
 -- Each building call keeps a plain graph well-formed. Assumes nothing.
-use mathlib.Core.Path.{_≡_, refl, sym, ap, subst, _∙_}
-use mathlib.Core.List.{List, [], _∷_, _++_}
+use mathlib.Core.Path.{_≡_, refl, sym, subst}
+use mathlib.Core.List.{[], _∷_}
 use mathlib.Core.Bool.{Bool, true, false, cond}
-use Prim.Native.Nat.{ℕ, _≤_, _<_, _+_}
+use Prim.Native.Nat.{ℕ, _<_}
 use native.Mathlib.Omega.{arith}
-use lib.ListN.{length, getD}
-use lib.Dec.{ltb, leb}
+use lib.ListN.{length}
 use Rattle.std.specs.declared.option.Option.the-variants.{Some, None}
 use Rattle.ir.specs.declared.refusal.Refusal.{Refusal}
 use Rattle.std.proofs.shelf.Lists.{append-nil}
@@ -13,19 +12,19 @@ use Rattle.std.proofs.shelf.Tests.{lt-ltb, false≢true}
 use Rattle.ir.specs.declared.entities.Block.{Block}
 use Rattle.ir.specs.declared.entities.Inst.{Inst}
 use Rattle.ir.specs.declared.entities.Value.{Value}
-use Rattle.flow.specs.Meaning.{NoLoop, Reach, through}
+use Rattle.flow.specs.Meaning.{NoLoop, through}
 use Rattle.flow.proofs.Walks.{walk-is-post-order}
 use Rattle.rows.specs.Meaning.{flow}
-use Rattle.rows.specs.Rows.{Rows, empty, instAt, noInst, allLive, original}
-use Rattle.rows.specs.WellFormed.{WellFormed, BlocksFit}
+use Rattle.rows.specs.Rows.{Rows, empty, noInst, allLive, original}
+use Rattle.rows.specs.WellFormed.{WellFormed}
 use Rattle.rows.proofs.Lawfulness.{lawful}
 use Rattle.rows.proofs.Tables.{longer}
 use Rattle.plain.specs.Feed.{first, checks, grown, instRow}
 use Rattle.plain.specs.Loops as loops
 use Rattle.plain.specs.Loops.{reachesThrough}
-use Rattle.plain.proofs.Accepted.{none-stands, inst-accepted}
+use Rattle.plain.proofs.Accepted.{inst-accepted}
 use Rattle.plain.proofs.Changes.{clear-sound, alias-sound, resolve-sound, clear-blocks, resolve-blocks}
-use Rattle.plain.proofs.Growth.{Grown, values-fit, insts-fit, results-fit, blocks-fit}
+use Rattle.plain.proofs.Growth.{Grown, values-fit, blocks-fit}
 use Rattle.plain.proofs.Loops.{Path, path-reach}
 use Rattle.plain.proofs.NoLoops.{usesIn, uses-are, more-no-loop, clear-no-loop, resolve-no-loop, alias-no-loop}
 use Rattle.plain.proofs.Steps.{param-grown, inst-grown, param-sound, inst-sound, rows-end}
@@ -33,8 +32,6 @@ use Rattle.plain.proofs.Through.{none-through}
 use Rattle.calls.specs.Calls.{MakeBlock, AppendBlockParam, AppendInst, ClearResults, ChangeToAlias, ResolveAllAliases}
 use Rattle.calls.specs.Calls.{InstCall}
 use Rattle.rows.specs.declared.instruction.InstructionData.{InstructionData}
-use Rattle.std.proofs.shelf.Lists.{getD-past}
-use Rattle.plain.specs.Feed.{resultRows}
 
 pub empty-loopless : NoLoop (flow empty)
 unfolding flow

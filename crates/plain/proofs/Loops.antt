@@ -1,10 +1,10 @@
 -- Loops by what values use, whatever tells that: no building call makes one. Assumes nothing.
 use mathlib.Core.Path.{_≡_, refl, sym, ap, subst, fun-ext, _∙_}
-use mathlib.Core.Bool.{Bool, true, false, _||_}
+use mathlib.Core.Bool.{Bool, true, false}
 use mathlib.Core.List.{List}
 use mathlib.Core.Logic.{_⊎_, inl, inr}
 use Prim.Native.Nat.{ℕ, _<_}
-use Rattle.std.proofs.shelf.Tests.{cases-bool, false≢true}
+use Rattle.std.proofs.shelf.Tests.{cases-bool}
 use Rattle.flow.specs.Meaning.{Flow, Reach, here, through, NoLoop, uses, has}
 
 -- v reaches w in one step or more, where args tells what each value uses

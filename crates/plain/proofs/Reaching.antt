@@ -1,25 +1,19 @@
 -- What reaches a value whose aliases lead through another. Assumes nothing.
 use mathlib.Core.Path.{_≡_, refl, sym, ap, subst, _∙_}
-use mathlib.Core.Bool.{Bool, true, false, cond, not, _&&_, _||_}
-use mathlib.Core.List.{List, [], _∷_, _++_}
-use mathlib.Core.Logic.{_⊎_, inl, inr, ⊎-elim}
-use Prim.Native.Nat.{ℕ, zero, suc, _+_, _<_, _≤_}
-use native.Mathlib.Omega.{arith}
+use mathlib.Core.Bool.{Bool, true, false, _||_}
+use mathlib.Core.List.{List, [], _∷_}
+use mathlib.Core.Logic.{inl, inr}
+use Prim.Native.Nat.{ℕ}
 use lib.Dec.{eqb}
-use lib.ListN.{length, getD, set, replicate, length-set, length-replicate}
-use lib.Seq.{getD-set-same, getD-set-other}
-use Rattle.std.proofs.shelf.Lists.{getD-replicate}
-use Rattle.std.proofs.shelf.Tests.{both-ways, cases-bool, cases-eq, or-cases, or-left, or-right, eq-eqb, eqb-true, false≢true}
-use Rattle.flow.specs.Meaning.{Flow, Lawful, Reach, here, through as further, uses, has, live}
-use Rattle.flow.specs.Walk.{walk, Topological}
-use Rattle.flow.proofs.Among.{has-here, has-push, has-push-other}
-use Rattle.flow.proofs.Paths.{live-exists}
-use Rattle.flow.proofs.Places.{topological-left, topological-operands}
+use Rattle.std.proofs.shelf.Tests.{or-cases, or-left, or-right, eqb-true, false≢true}
+use Rattle.flow.specs.Meaning.{Lawful, Reach, here, through as further, uses, has}
+use Rattle.flow.specs.Walk.{walk}
+use Rattle.flow.proofs.Among.{has-here}
 use Rattle.flow.proofs.Walks.{walk-is-post-order}
 use Rattle.rows.specs.Meaning.{flow}
 use Rattle.rows.specs.Rows.{Rows}
 use Rattle.rows.specs.declared.value.ValueData.{ValueData}
-use Rattle.plain.specs.Loops.{through, anyThrough, anyOf, reachesThrough, closes, firstFrom}
+use Rattle.plain.specs.Loops.{through, anyThrough, anyOf, reachesThrough}
 
 -- two tests that pass together
 pub same-test : (a b : Bool) → (a ≡ true → b ≡ true) → (b ≡ true → a ≡ true) → a ≡ b

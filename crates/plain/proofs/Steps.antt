@@ -1,13 +1,13 @@
 -- The calls that add rows keep a plain graph sound. Assumes nothing.
 use mathlib.Core.Path.{_≡_, refl, sym, ap, subst, _∙_}
-use mathlib.Core.List.{List, [], _∷_, _++_, map}
-use mathlib.Core.Bool.{Bool, true, false, cond, not, _&&_, _||_}
-use mathlib.Core.Logic.{_⊎_, inl, inr, _≢_}
-use Prim.Native.Nat.{ℕ, zero, suc, _≤_, _<_, _+_, _-_}
+use mathlib.Core.List.{List, [], _∷_, _++_}
+use mathlib.Core.Bool.{true, false, _&&_}
+use mathlib.Core.Logic.{inl, inr}
+use Prim.Native.Nat.{ℕ, suc, _≤_, _<_, _+_}
 use native.Mathlib.Omega.{arith}
-use lib.ListN.{length, getD, set}
-use lib.Dec.{eqb, ltb, leb}
-use Rattle.std.specs.shelf.Lists.{All, countBy}
+use lib.ListN.{length, getD}
+use lib.Dec.{ltb}
+use Rattle.std.specs.shelf.Lists.{All}
 use Rattle.std.specs.declared.option.Option.{Option}
 use Rattle.std.specs.declared.option.Option.the-variants.{Some, None}
 use lib.IntN.{ℤ}
@@ -30,7 +30,7 @@ use Rattle.plain.specs.Feed.{first, checks, grown, typeOr, resultRows, results
 use Rattle.plain.proofs.Accepted as accepted
 use Rattle.plain.proofs.Chains.{settled-more}
 use Rattle.plain.proofs.Growth.{Grown, Keeps, keeps, values-fit, insts-fit, results-fit, arg-widths-kept, all-live-kept}
-use Rattle.calls.specs.Calls.{MakeBlock, AppendBlockParam, AppendInst}
+use Rattle.calls.specs.Calls.{AppendBlockParam, AppendInst}
 use Rattle.calls.specs.Calls.{InstCall}
 use Rattle.rows.specs.declared.instruction.InstructionData.{InstructionData}
 use Rattle.rows.specs.declared.value.ValueData.the-variants.{Inst, Param, Deleted}

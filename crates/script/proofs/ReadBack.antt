@@ -5,7 +5,7 @@ use mathlib.Core.List.{List, [], _∷_, _++_, map, append-nil, append-assoc}
 use Prim.Native.Nat.{ℕ, _+_, _-_, _*_, _/_, _%_, _^_, _≤_, _<_, suc}
 use native.Mathlib.Omega.{arith}
 use lib.Chars.{codes}
-use lib.Dec.{eqb, leb, ltb}
+use lib.Dec.{eqb, ltb}
 use lib.IntN.{ℤ, pos, negsuc, negℤ}
 use lib.ListN.{length, getD, length-append}
 use lib.Signed.{mag}
@@ -24,11 +24,10 @@ use Rattle.ir.specs.declared.entities.Inst.{Inst}
 use Rattle.ir.specs.declared.entities.Value.{Value}
 use Rattle.calls.specs.Calls as calls
 use Rattle.calls.specs.Calls.{Call, InstCall}
-use Rattle.script.specs.declared.items.Item.{Item}
 use Rattle.script.specs.declared.items.Item.the-variants.{Operand, Immediate, Condition}
 use Rattle.script.specs.Text.{isSpace, isFeed, before, words, wordsAfter, lines, linesAfter}
 use Rattle.script.specs.Numbers.{andThen, isDigit, decimalAfter, below, number, behind, numbered, blockOf, instOf, valueOf, immediateFrom, immediateOf}
-use Rattle.script.specs.Names.{orElse, isNamed, codeFrom, typeNamed, typeOf, opcodeNamed, opcodeOf, conditionNamed, conditionOf}
+use Rattle.script.specs.Names.{orElse, codeFrom, typeNamed, typeOf, opcodeNamed, opcodeOf, conditionNamed, conditionOf}
 use Rattle.script.specs.Script.{ItemsSaid, itemOf, withItem, noItems, itemsOf, typesOf, none, one, inst, saying, Says, lineOf, linesOf}
 use Rattle.script.specs.Spelled.{blockWord, instWord, valueWord, itemWords, spelled, spaced, written, Fits, InstFits, ReadsBack}
 use Rattle.script.proofs.Readings.{behind-front}

@@ -13,7 +13,7 @@ use Rattle.std.specs.declared.option.Option.the-variants.{Some, None}
 use Rattle.std.specs.Options.{mapped, Cases}
 use Rattle.std.proofs.shelf.Lists.{at-drop-more, at-drop-all}
 use Rattle.std.proofs.shelf.Tests.{cond-true, cond-false, cases-bool, le-leb, lt-leb, eq-eqb, eqb-true}
-use Rattle.script.specs.Numbers.{isDigit, decimalAfter, decimal, below, number, behind}
+use Rattle.script.specs.Numbers.{isDigit, decimalAfter, below, number, behind}
 use Rattle.script.specs.Names.{isNamed, codeFrom}
 
 too-big : (limit n : ℕ) (bs : List ℕ) → limit ≤ n → below limit (decimalAfter n bs) ≡ None

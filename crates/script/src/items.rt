@@ -5,7 +5,6 @@ ghost use Rattle.std.specs.Of.Vec.{vec-items};
 ghost use Rattle.std.specs.Vec.{made};
 ghost use Rattle.std.specs.declared.option.Option.the-variants.{Some, None};
 ghost use Rattle.script.specs.Text.{words as wordsOf};
-ghost use Rattle.script.specs.Numbers.{andThen};
 ghost use Rattle.script.specs.Script.{itemOf, withItem, itemsSaid, itemsOf, noItems, typesOf, Reads};
 use crate::error::LineError;
 use crate::error::LineErrorFromAlloc;

@@ -1,11 +1,11 @@
 use mathlib.Core.List.{List, _∷_, [], _++_, map, map-append}
-use mathlib.Core.Path.{_≡_, refl, sym, ap, subst, _∙_}
-use Prim.Native.Nat.{ℕ, _<_, _+_}
+use mathlib.Core.Path.{_≡_, sym, ap, _∙_}
+use Prim.Native.Nat.{ℕ, _+_}
 use native.Mathlib.Omega.{arith}
-use lib.ListN.{length, getD, take}
+use lib.ListN.{length, take}
 use Rattle.std.proofs.shelf.Lists.{take-all, take-more}
 use Rattle.rows.specs.Rows.{Rows, empty}
-use Rattle.calls.specs.Calls.{Call, callOf}
+use Rattle.calls.specs.Calls.{callOf}
 use Rattle.calls.specs.declared.call.BuildCall.{BuildCall}
 use Rattle.dfg.specs.Plain.{plain}
 use Rattle.plain.specs.Feed.{fed, fedWith, fedAll, answersTo, answered, answerTo}

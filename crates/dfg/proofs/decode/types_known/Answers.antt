@@ -1,11 +1,10 @@
 use mathlib.Core.Bool.{_&&_}
 use mathlib.Core.List.{List}
-use mathlib.Core.Path.{_≡_, refl, sym, ap, _∙_}
+use mathlib.Core.Path.{sym, ap, _∙_}
 use Prim.Native.Nat.{ℕ, _+_}
-use lib.ListN.{drop, getD}
+use lib.ListN.{drop}
 use Rattle.std.specs.Options.{isSome}
 use Rattle.std.proofs.shelf.Lists.{drop-all, drop-more}
-use Rattle.ir.specs.Codes.{typeAt}
 use Rattle.plain.specs.Feed.{typesKnown}
 use Rattle.dfg.proofs.decode.types_known.Needs as need
 

@@ -2,7 +2,6 @@ use mathlib.Core.Bool.{false, not, _&&_}
 use mathlib.Core.Path.{_≡_, sym, ap, _∙_}
 use Prim.Native.Nat.{ℕ}
 use native.Mathlib.Omega.{arith}
-use lib.Dec.{eqb}
 use lib.ListN.{getD}
 use Rattle.std.proofs.shelf.Tests.{eq-eqb, ne-eqb}
 use Rattle.dfg.specs.Finders.{markedBut}

@@ -1,5 +1,5 @@
 use mathlib.Core.Path.{_≡_, sym, ap, _∙_}
-use mathlib.Core.Bool.{Bool, cond}
+use mathlib.Core.Bool.{cond}
 use Rattle.std.specs.declared.option.Option.the-variants.{None}
 use Rattle.script.specs.Text.{words}
 use Rattle.script.specs.Script.{itemsOf, itemsSaid}

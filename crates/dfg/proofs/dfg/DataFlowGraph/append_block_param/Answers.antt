@@ -1,15 +1,11 @@
 use mathlib.Core.Path.{_≡_, sym, subst}
 use borrow.Author.Needs.{needs}
-use native.Mathlib.Omega.{arith}
 use Rattle.std.specs.declared.option.Option.the-variants.{None}
-use Rattle.rows.specs.Rows.{Rows}
 use Rattle.rows.specs.WellFormed.{WellFormed}
 use Rattle.dfg.specs.Plain.{plain}
 use Rattle.plain.specs.Feed.{first, checks}
-use Rattle.dfg.specs.Held.{held}
-use Rattle.plain.proofs.Accepted.{inst-accepted}
-use Rattle.plain.proofs.Kept.{block-kept, param-kept, inst-kept, clear-kept, resolve-kept}
-use Rattle.calls.specs.Calls.{AppendBlockParam, AppendInst}
+use Rattle.plain.proofs.Kept.{param-kept}
+use Rattle.calls.specs.Calls.{AppendBlockParam}
 use Rattle.dfg.proofs.dfg.DataFlowGraph.append_block_param.Needs as need
 
 pub ghost-self : need.ghost-self

@@ -1,6 +1,4 @@
 use mathlib.Core.Path.{sym, ap, _∙_}
-use native.Mathlib.Omega.{arith}
-use borrow.Author.Needs.{needs}
 use Rattle.std.proofs.shelf.Tests.{eqb-true}
 use Rattle.script.specs.Text.{first, others}
 use Rattle.script.proofs.Pieces.{next-none}
