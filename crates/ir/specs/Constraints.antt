@@ -1,12 +1,17 @@
 -- What the opcodes ask of counts, widths and immediates, as tests; operations of one kind ask the same.
 -- Assumes nothing.
-use mathlib.Core.Bool.{Bool, true, _&&_}
+use mathlib.Core.Bool.{Bool, true, false, _&&_}
+use mathlib.Core.List.{List, map}
+use mathlib.Core.Path.{_≡_}
 use Prim.Native.Nat.{ℕ}
-use lib.Dec.{eqb, ltb, leb}
+use lib.Dec.{T, eqb, ltb, leb}
 use lib.IntN.{ℤ}
-use Rattle.ir.specs.Widths.{isInteger, isImmediate}
+use Rattle.std.specs.shelf.Lists.{All}
+use Rattle.ir.specs.Entities.{values, argCount, argWidths}
+use Rattle.ir.specs.Widths.{Signature, isInteger, isImmediate}
 use Rattle.ir.specs.declared.constraints.OpcodeConstraints.{OpcodeConstraints}
 use Rattle.ir.specs.declared.constraints.OpcodeConstraints.the-variants.{Constant, Unary, Binary, Shift, Select, Extend, Compare, Opaque}
+use Rattle.ir.specs.declared.instructions.Operands.{Operands}
 use Rattle.ir.specs.declared.opcodes.Opcode.{Opcode}
 use Rattle.ir.specs.declared.opcodes.Opcode.the-variants as op
 
@@ -37,6 +42,17 @@ constraintsOf op.SaddSat = Binary
 constraintsOf op.SsubSat = Binary
 constraintsOf op.UsubSat = Binary
 constraintsOf op.Opaque = Opaque
+
+-- are these the constraints of an operation
+abbrev pub isOperation : OpcodeConstraints → Bool
+isOperation Constant = false
+isOperation Unary = true
+isOperation Binary = true
+isOperation Shift = true
+isOperation Select = true
+isOperation Extend = true
+isOperation Compare = true
+isOperation Opaque = false
 
 -- may an instruction have so many operands
 abbrev pub argCountFits : OpcodeConstraints → ℕ → Bool
@@ -81,3 +97,20 @@ immediateFits Select w z = true
 immediateFits Extend w z = true
 immediateFits Compare w z = true
 immediateFits Opaque w z = true
+
+-- ---- the tests and what they decide
+
+-- an operation's result of width w and operands of the widths ws fit the opcode: all are integers, and the widths are in the opcode's relation
+pub record OperationFits (o : Opcode) (w : ℕ) (ws : List ℕ) : Type 0 where
+  pub integer : T (isInteger w)
+  pub operands : All (λ v. T (isInteger v)) ws
+  pub signature : Signature o w ws
+
+-- the tests pass exactly where they fit, t telling the widths of values
+pub record TestsExact (o : Opcode) (t : ℕ → ℕ) (w : ℕ) (args : Operands) : Type 0 where
+  pub sound : widthsFit (constraintsOf o) w (argWidths t args .0) (argWidths t args .1) (argWidths t args .2) ≡ true → OperationFits o w (map t (values args))
+  pub complete : OperationFits o w (map t (values args)) → widthsFit (constraintsOf o) w (argWidths t args .0) (argWidths t args .1) (argWidths t args .2) ≡ true
+
+abbrev pub WidthsDecided : Type 0
+WidthsDecided =
+    (o : Opcode) (t : ℕ → ℕ) (w : ℕ) (args : Operands) → isOperation (constraintsOf o) ≡ true → argCountFits (constraintsOf o) (argCount args) ≡ true → TestsExact o t w args

@@ -1,7 +1,7 @@
 ghost use mathlib.Core.Path.{_≡_};
 ghost use Rattle.ir.specs.Codes.{typeBits};
 ghost use Rattle.ir.specs.Widths.{isInteger, isImmediate};
-ghost use Rattle.ir.specs.Constraints.{constraintsOf, argCountFits, resultCountFits, widthsFit, immediateFits};
+ghost use Rattle.ir.specs.Constraints.{constraintsOf, argCountFits, resultCountFits, widthsFit, immediateFits, WidthsDecided};
 use crate::opcodes::Opcode;
 use crate::types::Type;
 
@@ -116,4 +116,11 @@ impl OpcodeConstraints {
             _ => true,
         }
     }
+}
+
+/// The tests of widths decide the relation between an operation's widths that its meaning rests on.
+pub fn constraints_stand() -> u8
+    ensures { λ _. ⌜ WidthsDecided ⌝ }
+{
+    0
 }

@@ -12,6 +12,7 @@ pub mod words;
 pub use codes::codes_stand;
 pub use condcodes::IntCC;
 pub use constraints::OpcodeConstraints;
+pub use constraints::constraints_stand;
 pub use entities::Block;
 pub use entities::Inst;
 pub use entities::Value;
