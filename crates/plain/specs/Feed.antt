@@ -55,6 +55,8 @@ orElse None rest = rest
 
 -- ---- an instruction to append
 
+-- What its codes and its list of operands stand for. Where one stands for nothing the call is refused, and what is said here for
+-- that case is not read.
 abbrev pub typeOr : ℕ → T.Type
 typeOr bits = valueOr (typeAt bits) Invalid
 
