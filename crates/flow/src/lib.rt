@@ -1,4 +1,7 @@
 //! Flow graphs: the interface, what a graph means, the walk of a value and its number.
+//!
+//! Start at `specs/Meaning.antt`, which says what a graph means and which laws it keeps, and at `graph.rt` and `layout.rt`, the
+//! questions that a graph answers.
 ghost use Rattle.flow.specs.Layout.{LayoutOrder};
 ghost use Rattle.flow.specs.Meaning.{WidthTellsLive};
 ghost use Rattle.flow.specs.Number.{NoneWhereTrapped, NumbersInRange, NumberUnfolds};

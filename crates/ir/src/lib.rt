@@ -1,4 +1,6 @@
 //! The instructions of the IR: entities, opcodes, integer condition codes, value types, and why a call is refused.
+//!
+//! `specs/Codes.antt` has every number, name and word; `specs/Operations.antt` what each operation computes, at any width.
 pub mod codes;
 pub mod condcodes;
 pub mod constraints;
