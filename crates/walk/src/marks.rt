@@ -18,7 +18,7 @@ impl Drop for Marks<'_> {
 }
 
 /// Sets each byte to zero.
-pub fn clear(bytes: &mut [u8])
+pub(crate) fn clear(bytes: &mut [u8])
     ensures { λ _. ⌜ now (bytes .exit) ≡ replicate (length (now (bytes .entry))) 0 ⌝ }
 {
     bytes.fill(0);
