@@ -1,4 +1,6 @@
 //! Building calls as values, done on a data-flow graph: one of them, or a list from an empty graph.
+#![tactic(auto)]
+
 mod list;
 mod one;
 

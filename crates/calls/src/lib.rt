@@ -2,6 +2,8 @@
 //!
 //! Opcodes, conditions and types come as the numbers that the caller gave, and so do the counts of operands and
 //! results, since a call is refused where one of them is wrong.
+#![tactic(auto)]
+
 pub mod answer;
 pub mod call;
 

@@ -2,6 +2,8 @@
 //!
 //! Start at `specs/Meaning.antt`, which says what a graph means and which laws it keeps, and at `graph.rt` and `layout.rt`, the
 //! questions that a graph answers.
+#![tactic(auto)]
+
 ghost use Rattle.flow.specs.Layout.{LayoutOrder};
 ghost use Rattle.flow.specs.Meaning.{WidthTellsLive};
 ghost use Rattle.flow.specs.Number.{NoneWhereTrapped, NumbersInRange, NumberUnfolds};

@@ -30,7 +30,7 @@ impl ValueDef {
 
 /// What defines `v`, `Deleted` where there is no such value.
 fn definition<G: FlowGraph>(graph: &G, v: Value) -> ValueDef
-    ensures { result ≡ def_of (meaning graph.now) v.0 }
+    ensures { result ≡ def_of (G.meaning graph.now) v.0 }
 {
     match graph.value_def(v) {
         Ok(def) => def,
@@ -40,14 +40,14 @@ fn definition<G: FlowGraph>(graph: &G, v: Value) -> ValueDef
 
 /// The operands of the operation that defines `v`, none where no operation does.
 pub fn value_args<G: FlowGraph>(graph: &G, v: Value) -> Operands
-    ensures { values result ≡ uses (meaning graph.now) v.0 }
+    ensures { values result ≡ uses (G.meaning graph.now) v.0 }
 {
     definition(graph, v).args()
 }
 
 /// Whether `v` exists and is not deleted.
 pub fn is_live<G: FlowGraph>(graph: &G, v: Value) -> bool
-    ensures { result ≡ live (meaning graph.now) v.0 }
+    ensures { result ≡ live (G.meaning graph.now) v.0 }
 {
     definition(graph, v).is_present()
 }

@@ -1,6 +1,8 @@
 //! The instructions of the IR: entities, opcodes, integer condition codes, value types, and why a call is refused.
 //!
 //! `specs/Codes.antt` has every number, name and word; `specs/Operations.antt` what each operation computes, at any width.
+#![tactic(auto)]
+
 pub mod codes;
 pub mod condcodes;
 pub mod constraints;

@@ -1,6 +1,8 @@
 //! Loops of a directed graph over values: the lowest value in one, and whether there is none.
 //!
 //! Start at `digraph.rt`, the questions that a graph answers, and at `specs/Digraph.antt`, which says what the answers here mean.
+#![tactic(auto)]
+
 mod dfs;
 mod digraph;
 mod loopless;

@@ -2,6 +2,8 @@
 //!
 //! `specs/Feed.antt` is the place to start: the checks of each call in their order, the rows after it, and its answer.
 //! This crate has no code of its own but the statements that hold of every plain graph; `dfg` proves its graph equal to it.
+#![tactic(auto)]
+
 ghost use Rattle.plain.specs.Theorems.{StaysWellFormed, AlwaysLawful, AliasesJudged};
 
 /// Whatever building calls are fed to it, the plain graph keeps all laws, and a new alias is judged by the loops it would make.

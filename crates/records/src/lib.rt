@@ -2,6 +2,8 @@
 //!
 //! Start at `specs/Fields.antt` (the format, field by field), `specs/Faults.antt` (what is refused of a record) and
 //! `check.rt` (the call that looks at all of them). `specs/RowsOf.antt` says which rows the records stand for.
+#![tactic(auto)]
+
 mod check;
 mod faults;
 mod index;

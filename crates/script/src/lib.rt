@@ -43,6 +43,8 @@
 //! entities, `Names` the names, `Script` the calls and the lines. [`read_script`] is proved to answer what `script_of`
 //! there says of the text, whatever the text, unless memory runs out. [`script_stands`] is the theorem that every list of
 //! calls whose numbers fit their types can be written, and reads as itself; `Spelled` says how it is written.
+#![tactic(auto)]
+
 pub mod error;
 mod items;
 pub mod laws;

@@ -1,6 +1,8 @@
 //! How entities, types, calls, answers, refusals and definitions are printed: as a script writes them, where it can.
 //!
 //! `Show(x)` prints `x`. What is printed is tested by the programs that print it, and stated by no contract.
+#![tactic(auto)]
+
 use calls::{Answer, BuildCall, NewInst};
 use flow::ValueDef;
 use ir::{Block, Inst, IntCC, Opcode, Operands, Refusal, Type, Value};

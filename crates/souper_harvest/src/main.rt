@@ -1,3 +1,5 @@
+#![tactic(auto)]
+
 // Runs a script of building calls, and prints what they answer and the graph that they make.
 mod example;
 mod help;

@@ -43,8 +43,8 @@ fn push_args(args: Operands, stack: &mut Stack)
 
 /// Pushes the visit of `v` and, on top of it, the operands of `v`.
 fn expand<G: FlowGraph>(graph: &G, v: Value, stack: &mut Stack)
-    requires { length (items stack.old) + length (uses (meaning graph.now) v.0) < 4097 }
-    ensures { items stack.new ≡ traced (uses (meaning graph.now) v.0) ++ (Visit v ∷ items stack.old) }
+    requires { length (items stack.old) + length (uses (G.meaning graph.now) v.0) < 4097 }
+    ensures { items stack.new ≡ traced (uses (G.meaning graph.now) v.0) ++ (Visit v ∷ items stack.old) }
 {
     let args = value_args(graph, v);
     stack.push(StackEntry::Visit(v));
@@ -58,10 +58,10 @@ fn walk_marked<G: FlowGraph, V: Visitor>(
     marks: &mut [u8],
     visitor: &mut V,
 ) -> Result<u32, V::Stop>
-    requires alive { live (meaning graph.now) root.0 ≡ true }
+    requires alive { live (G.meaning graph.now) root.0 ≡ true }
     requires clear { marks.old ≡ replicate (length marks.old) 0 }
     requires room { 1024 ≤ length marks.old }
-    ensures { MatchResult result (Completed (meaning graph.now) root.0 (λ shown. fits visitor.old shown visitor.new)) (λ stop. Stopped (meaning graph.now) root.0 (λ shown. stops visitor.old shown visitor.new stop)) }
+    ensures { MatchResult result (Completed (G.meaning graph.now) root.0 (λ shown. fits visitor.old shown visitor.new)) (λ stop. Stopped (G.meaning graph.now) root.0 (λ shown. stops visitor.old shown visitor.new stop)) }
 {
     let number = root.0;
     let mut stack = Stack::new(Value(number));
@@ -90,9 +90,9 @@ fn walk_guarded<G: FlowGraph, V: Visitor>(
     marks: &mut [u8],
     visitor: &mut V,
 ) -> Result<u32, V::Stop>
-    requires alive { live (meaning graph.now) root.0 ≡ true }
+    requires alive { live (G.meaning graph.now) root.0 ≡ true }
     requires room { 1024 ≤ length marks.old }
-    ensures walked { MatchResult result (Completed (meaning graph.now) root.0 (λ shown. fits visitor.old shown visitor.new)) (λ stop. Stopped (meaning graph.now) root.0 (λ shown. stops visitor.old shown visitor.new stop)) }
+    ensures walked { MatchResult result (Completed (G.meaning graph.now) root.0 (λ shown. fits visitor.old shown visitor.new)) (λ stop. Stopped (G.meaning graph.now) root.0 (λ shown. stops visitor.old shown visitor.new stop)) }
     ensures cleared { marks.new ≡ replicate (length marks.old) 0 }
 {
     let seen = Marks(marks);
@@ -107,9 +107,9 @@ fn walk_lent<G: FlowGraph, V: Visitor>(
     marks: &mut [u8],
     visitor: &mut V,
 ) -> Result<u32, V::Stop>
-    requires alive { live (meaning graph.now) root.0 ≡ true }
+    requires alive { live (G.meaning graph.now) root.0 ≡ true }
     requires room { 1024 ≤ length marks.old }
-    ensures walked { MatchResult result (Completed (meaning graph.now) root.0 (λ shown. fits visitor.old shown visitor.new)) (λ stop. Stopped (meaning graph.now) root.0 (λ shown. stops visitor.old shown visitor.new stop)) }
+    ensures walked { MatchResult result (Completed (G.meaning graph.now) root.0 (λ shown. fits visitor.old shown visitor.new)) (λ stop. Stopped (G.meaning graph.now) root.0 (λ shown. stops visitor.old shown visitor.new stop)) }
     ensures cleared { marks.new ≡ replicate 1024 0 ++ drop 1024 marks.old }
 {
     walk_guarded(graph, root, &mut marks[..1024], visitor)
@@ -125,10 +125,10 @@ pub fn post_order_dfs<G: FlowGraph, V: Visitor>(
     marks: &mut [u8],
     visitor: &mut V,
 ) -> Result<u32, WalkError<V::Stop>>
-    ensures missing { live (meaning graph.now) root.0 ≡ false → (result ≡ Err (Refused not_live)) × (marks.new ≡ marks.old) × (visitor.new ≡ visitor.old) }
-    ensures short { live (meaning graph.now) root.0 ≡ true → length marks.old < 1024 → (result ≡ Err (Refused (too_short 1024))) × (marks.new ≡ marks.old) × (visitor.new ≡ visitor.old) }
-    ensures walked { Walked (meaning graph.now) root.0 (length marks.old) (λ shown. fits visitor.old shown visitor.new) (λ shown. stops visitor.old shown visitor.new) result }
-    ensures cleared { live (meaning graph.now) root.0 ≡ true → 1024 ≤ length marks.old → marks.new ≡ replicate 1024 0 ++ drop 1024 marks.old }
+    ensures missing { live (G.meaning graph.now) root.0 ≡ false → (result ≡ Err (Refused not_live)) × (marks.new ≡ marks.old) × (visitor.new ≡ visitor.old) }
+    ensures short { live (G.meaning graph.now) root.0 ≡ true → length marks.old < 1024 → (result ≡ Err (Refused (too_short 1024))) × (marks.new ≡ marks.old) × (visitor.new ≡ visitor.old) }
+    ensures walked { Walked (G.meaning graph.now) root.0 (length marks.old) (λ shown. fits visitor.old shown visitor.new) (λ shown. stops visitor.old shown visitor.new) result }
+    ensures cleared { live (G.meaning graph.now) root.0 ≡ true → 1024 ≤ length marks.old → marks.new ≡ replicate 1024 0 ++ drop 1024 marks.old }
 {
     if !is_live(graph, root) {
         return Err(WalkError::Refused(Refusal {

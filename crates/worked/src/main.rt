@@ -1,3 +1,5 @@
+#![tactic(auto)]
+
 // Builds the worked graphs, and meets every refusal of every building call at its edge. What the calls answer is
 // printed, one line for each case, and compared with the file `stdout`.
 
