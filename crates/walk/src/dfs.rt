@@ -61,7 +61,7 @@ fn walk_marked<G: FlowGraph, V: Visitor>(
     requires alive { live (G.meaning graph.now) root.0 ≡ true }
     requires clear { marks.old ≡ replicate (length marks.old) 0 }
     requires room { 1024 ≤ length marks.old }
-    ensures { MatchResult result (Completed (G.meaning graph.now) root.0 (λ shown. fits visitor.old shown visitor.new)) (λ stop. Stopped (G.meaning graph.now) root.0 (λ shown. stops visitor.old shown visitor.new stop)) }
+    ensures { MatchResult result (Completed (G.meaning graph.now) root.0 (λ shown. V.fits visitor.old shown visitor.new)) (λ stop. Stopped (G.meaning graph.now) root.0 (λ shown. V.stops visitor.old shown visitor.new stop)) }
 {
     let number = root.0;
     let mut stack = Stack::new(Value(number));
@@ -92,7 +92,7 @@ fn walk_guarded<G: FlowGraph, V: Visitor>(
 ) -> Result<u32, V::Stop>
     requires alive { live (G.meaning graph.now) root.0 ≡ true }
     requires room { 1024 ≤ length marks.old }
-    ensures walked { MatchResult result (Completed (G.meaning graph.now) root.0 (λ shown. fits visitor.old shown visitor.new)) (λ stop. Stopped (G.meaning graph.now) root.0 (λ shown. stops visitor.old shown visitor.new stop)) }
+    ensures walked { MatchResult result (Completed (G.meaning graph.now) root.0 (λ shown. V.fits visitor.old shown visitor.new)) (λ stop. Stopped (G.meaning graph.now) root.0 (λ shown. V.stops visitor.old shown visitor.new stop)) }
     ensures cleared { marks.new ≡ replicate (length marks.old) 0 }
 {
     let seen = Marks(marks);
@@ -109,7 +109,7 @@ fn walk_lent<G: FlowGraph, V: Visitor>(
 ) -> Result<u32, V::Stop>
     requires alive { live (G.meaning graph.now) root.0 ≡ true }
     requires room { 1024 ≤ length marks.old }
-    ensures walked { MatchResult result (Completed (G.meaning graph.now) root.0 (λ shown. fits visitor.old shown visitor.new)) (λ stop. Stopped (G.meaning graph.now) root.0 (λ shown. stops visitor.old shown visitor.new stop)) }
+    ensures walked { MatchResult result (Completed (G.meaning graph.now) root.0 (λ shown. V.fits visitor.old shown visitor.new)) (λ stop. Stopped (G.meaning graph.now) root.0 (λ shown. V.stops visitor.old shown visitor.new stop)) }
     ensures cleared { marks.new ≡ replicate 1024 0 ++ drop 1024 marks.old }
 {
     walk_guarded(graph, root, &mut marks[..1024], visitor)
@@ -127,7 +127,7 @@ pub fn post_order_dfs<G: FlowGraph, V: Visitor>(
 ) -> Result<u32, WalkError<V::Stop>>
     ensures missing { live (G.meaning graph.now) root.0 ≡ false → (result ≡ Err (Refused not_live)) × (marks.new ≡ marks.old) × (visitor.new ≡ visitor.old) }
     ensures short { live (G.meaning graph.now) root.0 ≡ true → length marks.old < 1024 → (result ≡ Err (Refused (too_short 1024))) × (marks.new ≡ marks.old) × (visitor.new ≡ visitor.old) }
-    ensures walked { Walked (G.meaning graph.now) root.0 (length marks.old) (λ shown. fits visitor.old shown visitor.new) (λ shown. stops visitor.old shown visitor.new) result }
+    ensures walked { Walked (G.meaning graph.now) root.0 (length marks.old) (λ shown. V.fits visitor.old shown visitor.new) (λ shown. V.stops visitor.old shown visitor.new) result }
     ensures cleared { live (G.meaning graph.now) root.0 ≡ true → 1024 ≤ length marks.old → marks.new ≡ replicate 1024 0 ++ drop 1024 marks.old }
 {
     if !is_live(graph, root) {

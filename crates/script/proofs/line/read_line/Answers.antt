@@ -5,4 +5,4 @@ use Rattle.script.proofs.line.read_line.Goals as goal
 
 pub returns : goal.returns
 returns c =
-    line_says _ _ c.in-Some.word.now c.in-Some-read-keyword.keyword (call_of c.in-ok-call.call) c.in-Some.ensures.word c.in-Some.ensures.rest (sym c.if-is-comment.ensures) c.in-Some-read-keyword.ensures c.in-ok-call.ensures
+    line_says _ _ c.in-Some.word.now c.in-Some-read_keyword.keyword (call_of c.in_ok-call.call) c.in-Some.ensures.word c.in-Some.ensures.rest (sym c.if-is_comment.ensures) c.in-Some-read_keyword.ensures c.in_ok-call.ensures

@@ -11,8 +11,8 @@ loop-code-init c = refl
 pub loop-code-preserved : goal.loop-code-preserved
 loop-code-preserved c = code_more intcc_name c.args.word.now intccs c.loop-code.code (search rules) (search rules) ∙ c.loop-code.invariant
 
-pub returns-then-is-condition : goal.returns-then-is-condition
-returns-then-is-condition c = sym (code_here intcc_name c.args.word.now intccs c.loop-code.code (search rules) (search rules)) ∙ c.loop-code.invariant
+pub returns-then-is_condition : goal.returns-then-is_condition
+returns-then-is_condition c = sym (code_here intcc_name c.args.word.now intccs c.loop-code.code (search rules) (search rules)) ∙ c.loop-code.invariant
 
 pub returns : goal.returns
 returns c = sym (code_none intcc_name c.args.word.now intccs c.loop-code.code (search rules)) ∙ c.loop-code.invariant

@@ -11,8 +11,8 @@ loop-code-init c = refl
 pub loop-code-preserved : goal.loop-code-preserved
 loop-code-preserved c = code_more opcode_name c.args.word.now opcodes c.loop-code.code (search rules) (search rules) ∙ c.loop-code.invariant
 
-pub returns-then-is-opcode : goal.returns-then-is-opcode
-returns-then-is-opcode c = sym (code_here opcode_name c.args.word.now opcodes c.loop-code.code (search rules) (search rules)) ∙ c.loop-code.invariant
+pub returns-then-is_opcode : goal.returns-then-is_opcode
+returns-then-is_opcode c = sym (code_here opcode_name c.args.word.now opcodes c.loop-code.code (search rules) (search rules)) ∙ c.loop-code.invariant
 
 pub returns : goal.returns
 returns c = sym (code_none opcode_name c.args.word.now opcodes c.loop-code.code (search rules)) ∙ c.loop-code.invariant

@@ -7,6 +7,6 @@ use Rattle.script.proofs.numbers.strip.Goals as goal
 pub returns : goal.returns
 returns c =
     let word = c.args.word.now in
-    let prefix = c.as-bytes.result.now in
-    let found = strip_prefix_is word prefix c.strip-prefix.result c.strip-prefix.ensures.cases in
-    stripped word prefix c.strip-prefix.result found ∙ ap (λ p. behind p word) c.as-bytes.ensures.value
+    let prefix = c.as_bytes.result.now in
+    let found = strip_prefix_is word prefix c.strip_prefix.result c.strip_prefix.ensures.cases in
+    stripped word prefix c.strip_prefix.result found ∙ ap (λ p. behind p word) c.as_bytes.ensures.value
