@@ -5,12 +5,12 @@ use Rattle.plain.proofs.Through.{first_here, first_step, first_end}
 use Rattle.dfg.proofs.finders.lowest_marked.Goals as goal
 use Rattle.dfg.proofs.finders.lowest_marked.Goals.{else-v-root-via-then-v-root+else-is-marked, else-v-root-via-else-v-root}
 
-pub returns-then-is-marked : goal.returns-then-is-marked
-returns-then-is-marked c =
+pub returns-then-is_marked : goal.returns-then-is_marked
+returns-then-is_marked c =
     let v : ℕ = c.loop-v.v in
     sym
     (first_here (marked_but c.args.marked.now c.args.root.0) c.args.count v c.loop-v-test.true
-    (ap (λ b. not b && get_or c.args.marked.now v false) (ne_eqb v c.args.root.0 c.if-v-root.true) ∙ sym c.if-is-marked.ensures))
+    (ap (λ b. not b && get_or c.args.marked.now v false) (ne_eqb v c.args.root.0 c.if-v-root.true) ∙ sym c.if-is_marked.ensures))
     ∙ c.loop-v.invariant
 
 pub loop-v-preserved : goal.loop-v-preserved
@@ -20,7 +20,7 @@ loop-v-preserved c =
     elim c.else-v-root.branch [
       | else-v-root-via-then-v-root+else-is-marked w ↦
           first_step test c.args.count v c.loop-v-test.true
-          (ap (λ b. not b && get_or c.args.marked.now v false) (ne_eqb v c.args.root.0 w.if-v-root.true) ∙ sym w.if-is-marked.ensures)
+          (ap (λ b. not b && get_or c.args.marked.now v false) (ne_eqb v c.args.root.0 w.if-v-root.true) ∙ sym w.if-is_marked.ensures)
           ∙ c.loop-v.invariant
       | else-v-root-via-else-v-root w ↦
           first_step test c.args.count v c.loop-v-test.true

@@ -3,7 +3,7 @@ use Rattle.script.specs.Text.{words}
 use Rattle.script.specs.Script.{items_of, items_said}
 use Rattle.script.proofs.Turns.{item_turn}
 use Rattle.script.proofs.items.read_items.Goals as goal
-use Rattle.script.proofs.items.read_items.Goals.{In-ok-fits}
+use Rattle.script.proofs.items.read_items.Goals.{In_ok-fits}
 
 -- what the words say, whether the item may come or not
 turn : (c : In_ok-fits) → items_of (items_said c.loop-word.items) (words c.loop-word.words.rest.now) ≡ cond c.in_ok-fits.fits (items_of (items_said c.add.new.self) (words c.next.new.self.rest.now)) None

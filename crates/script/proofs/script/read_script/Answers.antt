@@ -9,7 +9,7 @@ use Rattle.script.proofs.script.read_script.Goals as goal
 
 pub loop-rest-preserved : goal.loop-rest-preserved
 loop-rest-preserved c = (
-  calls_more (vec_items c.loop-rest.calls) (vec_items c.push.new.self) c.in-Ok-Some.call c.loop-rest.number c.cut_line.result.0.now _ _ c.cut_line.ensures.cut (search rules) c.in-ok-push.ensures.items
+  calls_more (vec_items c.loop-rest.calls) (vec_items c.push.new.self) c.in-Ok-Some.call c.loop-rest.number c.cut_line.result.0.now _ _ c.cut_line.ensures.cut (search rules) c.in_ok-push-in-Ok-Some.ensures.items
       ∙ c.loop-rest.invariant.0,
   search rules,
 )

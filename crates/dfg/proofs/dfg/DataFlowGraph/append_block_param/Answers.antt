@@ -6,9 +6,9 @@ use Rattle.plain.proofs.Kept.{param_kept}
 use Rattle.calls.specs.Calls.{AppendBlockParam}
 use Rattle.dfg.proofs.dfg.DataFlowGraph.append_block_param.Goals as goal
 
-pub invariant-of-self : goal.invariant-of-self
-invariant-of-self c =
+pub invariant_of-self : goal.invariant_of-self
+invariant_of-self c =
     let g = c.args.self.now in
     let free : first (checks (plain g) 1024 (AppendBlockParam c.args.block c.args.ty)) ≡ None = search rules in
-    let w = subst WellFormed (sym c.push-param.ensures.after) (param_kept (plain g) c.args.block c.args.ty free (g.sound, g.blocks, g.loopless)) in
-    (c.push-param.ensures.room, (w.0, (w.1, (w.2, tt))))
+    let w = subst WellFormed (sym c.push_param.ensures.after) (param_kept (plain g) c.args.block c.args.ty free (g.sound, g.blocks, g.loopless)) in
+    (c.push_param.ensures.room, (w.0, (w.1, (w.2, tt))))

@@ -7,18 +7,18 @@ use Rattle.plain.proofs.Accepted.{inst_accepted}
 use Rattle.plain.proofs.Kept.{inst_kept}
 use Rattle.dfg.proofs.dfg.DataFlowGraph.append_inst.Goals as goal
 
-pub push-inst-requires : goal.push-inst-requires
-push-inst-requires c =
+pub push_inst-requires : goal.push_inst-requires
+push_inst-requires c =
     let g = c.args.self.now in
     let n : InstCall = inst_of c.args.new.now in
     let free : first (checks (plain g) 1024 (AppendInst n)) ≡ None = search rules in
     let a = inst_accepted (plain g) n free in
     record { room = g.room; insts = a.inst_room; values = a.value_room }
 
-pub invariant-of-self : goal.invariant-of-self
-invariant-of-self c =
+pub invariant_of-self : goal.invariant_of-self
+invariant_of-self c =
     let g = c.args.self.now in
     let n : InstCall = inst_of c.args.new.now in
     let free : first (checks (plain g) 1024 (AppendInst n)) ≡ None = search rules in
-    let w = subst WellFormed (sym c.push-inst.ensures.after) (inst_kept (plain g) n free (g.sound, g.blocks, g.loopless)) in
-    (c.push-inst.ensures.room, (w.0, (w.1, (w.2, tt))))
+    let w = subst WellFormed (sym c.push_inst.ensures.after) (inst_kept (plain g) n free (g.sound, g.blocks, g.loopless)) in
+    (c.push_inst.ensures.room, (w.0, (w.1, (w.2, tt))))

@@ -4,8 +4,8 @@ use Rattle.dfg.specs.Plain.{plain}
 use Rattle.plain.proofs.Kept.{clear_kept}
 use Rattle.dfg.proofs.dfg.DataFlowGraph.clear_results.Goals as goal
 
-pub invariant-of-self : goal.invariant-of-self
-invariant-of-self c =
+pub invariant_of-self : goal.invariant_of-self
+invariant_of-self c =
     let g = c.args.self.now in
     let w = subst WellFormed (sym c.clear.ensures.after) (clear_kept (plain g) c.args.inst (omega arith) (g.sound, g.blocks, g.loopless)) in
     (c.clear.ensures.room, (w.0, (w.1, (w.2, tt))))

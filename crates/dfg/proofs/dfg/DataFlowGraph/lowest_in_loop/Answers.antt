@@ -14,12 +14,12 @@ returns c =
     let p : Rows = plain g in
     let d = c.args.dest.0 in
     let r = c.args.root.0 in
-    let marked = c.mark-reaching-marked.result in
+    let marked = c.mark_reaching-marked.result in
     let count : c.len.result ≡ length p.values = omega (arith, g.tables.values.ok.0) in
     record {
       lowest =
-          c.lowest-marked.ensures ∙ ap (λ n. first_from (marked_but marked r) n 0) count
+          c.lowest_marked.ensures ∙ ap (λ n. first_from (marked_but marked r) n 0) count
           ∙ first_same (marked_but marked r) (closes p d r) (length p.values) 0
-          (λ u lt. marks_close p d r marked c.mark-reaching-marked.ensures.marked u (omega (arith, g.sound.0.0)));
-      marks = c.mark-reaching-marked.ensures.marks;
+          (λ u lt. marks_close p d r marked c.mark_reaching-marked.ensures.marked u (omega (arith, g.sound.0.0)));
+      marks = c.mark_reaching-marked.ensures.marks;
     }

@@ -3,8 +3,8 @@ use Rattle.dfg.specs.Plain.{plain}
 use Rattle.plain.proofs.Kept.{block_kept}
 use Rattle.dfg.proofs.dfg.DataFlowGraph.make_block.Goals as goal
 
-pub invariant-of-self : goal.invariant-of-self
-invariant-of-self c =
+pub invariant_of-self : goal.invariant_of-self
+invariant_of-self c =
     let g = c.args.self.now in
     let w = block_kept (plain g) (omega arith) (g.sound, g.blocks, g.loopless) in
     (tt, (g.room, (w.0, (w.1, (w.2, tt)))))

@@ -17,7 +17,7 @@ unfolding reaches_through
 returns-in-Stopped c =
     let done = c.in-Err.ensures in
     let p = plain c.args.self.now in
-    let left = c.post-order-dfs.new.visitor in
+    let left = c.post_order_dfs.new.visitor in
     record {
       found = sym (stopped_found (flow p) c.args.root.0 (length c.args.marks.now) (λ shown. NoneThrough p.values c.args.dest.0 shown (vec_items left.graph.now.tables.values) left.dest.0) p.values c.args.dest.0 c.in-Err.error c.in-Stopped.field-0 c.in-Stopped.is done.walked);
       marks = done.cleared c.requires.alive c.requires.room;

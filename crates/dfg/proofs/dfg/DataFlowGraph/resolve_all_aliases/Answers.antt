@@ -4,8 +4,8 @@ use Rattle.dfg.specs.Plain.{plain}
 use Rattle.plain.proofs.Kept.{resolve_kept}
 use Rattle.dfg.proofs.dfg.DataFlowGraph.resolve_all_aliases.Goals as goal
 
-pub invariant-of-self : goal.invariant-of-self
-invariant-of-self c =
+pub invariant_of-self : goal.invariant_of-self
+invariant_of-self c =
     let g = c.args.self.now in
-    let w = subst WellFormed (sym c.resolve-all.ensures.after) (resolve_kept (plain g) (g.sound, g.blocks, g.loopless)) in
-    (c.resolve-all.ensures.room, (w.0, (w.1, (w.2, tt))))
+    let w = subst WellFormed (sym c.resolve_all.ensures.after) (resolve_kept (plain g) (g.sound, g.blocks, g.loopless)) in
+    (c.resolve_all.ensures.room, (w.0, (w.1, (w.2, tt))))

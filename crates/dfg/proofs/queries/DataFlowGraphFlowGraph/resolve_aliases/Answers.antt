@@ -10,5 +10,5 @@ returns-then-v-len c = ap Err c.refuse.ensures ∙ sym (asked_past (plain c.args
 
 pub returns : goal.returns
 returns c =
-    ap (λ n. Ok (value n)) (c.resolve-aliases.ensures ∙ sym (ap (λ (n : Node). n.original) (node_in (plain c.args.self.now) c.args.v.0 (omega arith))))
+    ap (λ n. Ok (value n)) (c.resolve_aliases.ensures ∙ sym (ap (λ (n : Node). n.original) (node_in (plain c.args.self.now) c.args.v.0 (omega arith))))
     ∙ sym (asked_in (plain c.args.self.now) c.args.v.0 _ (omega arith))

@@ -13,7 +13,7 @@ pub returns : goal.returns
 returns c =
     let p : Rows = plain c.args.self.now in
     ap Ok
-    (c.row-def.ensures
-    ∙ ap (def_in p) (c.value-data.ensures ∙ ap (value_at p) c.resolve-aliases-original.ensures)
+    (c.row_def.ensures
+    ∙ ap (def_in p) (c.value_data.ensures ∙ ap (value_at p) c.resolve_aliases-original.ensures)
     ∙ sym (ap (λ (n : Node). n.def) (node_in p c.args.v.0 (omega arith))))
     ∙ sym (asked_in p c.args.v.0 _ (omega arith))

@@ -5,4 +5,4 @@ use Rattle.dfg.specs.Plain.{plain}
 use Rattle.dfg.proofs.queries.DataFlowGraphFlowGraph.value_type.Goals as goal
 
 pub returns : goal.returns
-returns c = ap type_bits c.value-type.ensures ∙ sym (width_is (plain c.args.self.now) c.args.v.0)
+returns c = ap type_bits c.value_type.ensures ∙ sym (width_is (plain c.args.self.now) c.args.v.0)
