@@ -3,7 +3,7 @@ use Rattle.std.proofs.lemmas.Bool.{eq-eqb, ne_eqb}
 use Rattle.dfg.specs.Finders.{marked_but}
 use Rattle.plain.proofs.Through.{first_here, first_step, first_end}
 use Rattle.dfg.proofs.finders.lowest_marked.Goals as goal
-use Rattle.dfg.proofs.finders.lowest_marked.Goals.{else-v-root-via-then-v-root+else-is-marked, else-v-root-via-else-v-root}
+use Rattle.dfg.proofs.finders.lowest_marked.Goals.{else-v-root-via-then-v-root+else-is_marked, else-v-root-via-else-v-root}
 
 pub returns-then-is_marked : goal.returns-then-is_marked
 returns-then-is_marked c =
@@ -18,7 +18,7 @@ loop-v-preserved c =
     let v : ℕ = c.loop-v.v in
     let test = marked_but c.args.marked.now c.args.root.0 in
     elim c.else-v-root.branch [
-      | else-v-root-via-then-v-root+else-is-marked w ↦
+      | else-v-root-via-then-v-root+else-is_marked w ↦
           first_step test c.args.count v c.loop-v-test.true
           (ap (λ b. not b && get_or c.args.marked.now v false) (ne_eqb v c.args.root.0 w.if-v-root.true) ∙ sym w.if-is_marked.ensures)
           ∙ c.loop-v.invariant

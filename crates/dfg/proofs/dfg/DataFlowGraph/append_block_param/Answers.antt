@@ -11,4 +11,4 @@ invariant_of-self c =
     let g = c.args.self.now in
     let free : first (checks (plain g) 1024 (AppendBlockParam c.args.block c.args.ty)) ≡ None = search rules in
     let w = subst WellFormed (sym c.push_param.ensures.after) (param_kept (plain g) c.args.block c.args.ty free (g.sound, g.blocks, g.loopless)) in
-    (c.push_param.ensures.room, (w.0, (w.1, (w.2, tt))))
+    record { room = c.push_param.ensures.room; sound = w.0; blocks = w.1; loopless = w.2 }

@@ -21,4 +21,4 @@ invariant_of-self c =
     let n : InstCall = inst_of c.args.new.now in
     let free : first (checks (plain g) 1024 (AppendInst n)) ≡ None = search rules in
     let w = subst WellFormed (sym c.push_inst.ensures.after) (inst_kept (plain g) n free (g.sound, g.blocks, g.loopless)) in
-    (c.push_inst.ensures.room, (w.0, (w.1, (w.2, tt))))
+    record { room = c.push_inst.ensures.room; sound = w.0; blocks = w.1; loopless = w.2 }

@@ -58,7 +58,7 @@ invariant_of-self c =
     let w = subst WellFormed (sym c.set_alias.ensures.after)
     (alias_kept p (length c.args.marks.now) c.args.dest c.args.src (sym c.alias_refusal.ensures ∙ c.in_default.is)
     (no_refusal (reaches_through p c.args.dest.0 (original p c.args.src.0)) _ none) (g.sound, g.blocks, g.loopless)) in
-    (c.set_alias.ensures.room, (w.0, (w.1, (w.2, tt))))
+    record { room = c.set_alias.ensures.room; sound = w.0; blocks = w.1; loopless = w.2 }
 
 pub returns : goal.returns
 returns c =

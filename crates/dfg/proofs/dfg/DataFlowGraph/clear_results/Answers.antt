@@ -8,4 +8,4 @@ pub invariant_of-self : goal.invariant_of-self
 invariant_of-self c =
     let g = c.args.self.now in
     let w = subst WellFormed (sym c.clear.ensures.after) (clear_kept (plain g) c.args.inst (omega arith) (g.sound, g.blocks, g.loopless)) in
-    (c.clear.ensures.room, (w.0, (w.1, (w.2, tt))))
+    record { room = c.clear.ensures.room; sound = w.0; blocks = w.1; loopless = w.2 }

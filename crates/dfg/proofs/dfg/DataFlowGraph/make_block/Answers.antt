@@ -7,4 +7,4 @@ pub invariant_of-self : goal.invariant_of-self
 invariant_of-self c =
     let g = c.args.self.now in
     let w = block_kept (plain g) (omega arith) (g.sound, g.blocks, g.loopless) in
-    (tt, (g.room, (w.0, (w.1, (w.2, tt)))))
+    record { room = g.room; sound = w.0; blocks = w.1; loopless = w.2 }

@@ -8,4 +8,4 @@ pub invariant_of-self : goal.invariant_of-self
 invariant_of-self c =
     let g = c.args.self.now in
     let w = subst WellFormed (sym c.resolve_all.ensures.after) (resolve_kept (plain g) (g.sound, g.blocks, g.loopless)) in
-    (c.resolve_all.ensures.room, (w.0, (w.1, (w.2, tt))))
+    record { room = c.resolve_all.ensures.room; sound = w.0; blocks = w.1; loopless = w.2 }
