@@ -21,7 +21,7 @@ loop-call-preserved c =
     let before : p ≡ fed_all empty (map call_of (take i calls)) = c.loop-call.invariant.0 in (
       c.apply.ensures.after ∙ ap (λ n. fed_with n p (call_of call)) long ∙ ap (λ q. fed q (call_of call)) before
           ∙ sym (ap (fed_all empty) more ∙ fed_more empty (map call_of (take i calls)) (call_of call)),
-      c.in-ok-push.ensures.items
+      c.in_ok-push.ensures.items
           ∙ ap (λ l. l ++ c.apply.result ∷ []) c.loop-call.invariant.1
           ∙ ap (λ r. answers_to empty (map call_of (take i calls)) ++ r ∷ [])
           (c.apply.ensures.value ∙ ap (λ n. answered n p (call_of call) (answer_to p (call_of call))) long ∙ ap (λ q. answered 1024 q (call_of call) (answer_to q (call_of call))) before)
