@@ -3,7 +3,7 @@ use Rattle.std.proofs.Common.{◌≡◌, ℕ, zero, suc, ◌+◌, ◌<◌, ◌�
 use Rattle.std.proofs.lemmas.Bool.{cases_Bool, and_parts, and_from, not-true, ne_eqb, eqb-false, eqb-true, or_cases, false≢true}
 use Rattle.ir.specs.declared.entities.Value.{Value}
 use Rattle.ir.specs.declared.refusal.Cause.TheVariants.{Loop}
-use Rattle.flow.specs.Meaning.{Flow, Lawful, Reach, here, through as further, used, uses, has, live}
+use Rattle.flow.specs.Meaning.{Flow, Lawful, Reach, here, through as further, used, uses, live}
 use Rattle.flow.proofs.Paths.{live_exists}
 use Rattle.flow.proofs.Walks.{walk_is_post_order}
 use Rattle.rows.specs.Meaning.{flow, def_in}

@@ -20,7 +20,6 @@ use Rattle.plain.proofs.Chains.{settled_aliased, settled_erased}
 use Rattle.plain.proofs.Growth.{Keeps, OverInsts, over, over_inst, over_param, all_live_kept, arg_widths_kept, listed_kept}
 use Rattle.calls.specs.Calls.{ClearResults, ChangeToAlias, ResolveAllAliases}
 use Rattle.rows.specs.declared.instruction.InstructionData.{InstructionData}
-use Rattle.rows.specs.declared.instruction.Results.TheVariants as results
 use Rattle.rows.specs.declared.value.ValueData.{ValueData}
 use Rattle.rows.specs.declared.value.ValueData.TheVariants.{Inst, Param, Alias, Union, Deleted}
 

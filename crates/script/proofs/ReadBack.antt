@@ -1,5 +1,5 @@
 -- What is written reads back. Assumes nothing.
-use Rattle.std.proofs.Common.{◌≡◌, ℕ, suc, ◌+◌, ◌-◌, ◌*◌, ◌/◌, ◌%◌, ◌^◌, ◌<◌, ◌≤◌, Bool, true, false, cond, not, ◌&&◌, ◌||◌, eqb, ltb, List, [], ◌∷◌, ◌++◌, map, length, get_or, ℤ, pos, negsuc, neg_ℤ, Some, None, Ok, codes, decimal, Option, sym, refl, ap, ◌∙◌, append_assoc, append-nil, arith, length-append}
+use Rattle.std.proofs.Common.{◌≡◌, ℕ, suc, ◌+◌, ◌-◌, ◌*◌, ◌/◌, ◌%◌, ◌^◌, ◌<◌, ◌≤◌, Bool, true, false, not, ◌&&◌, ◌||◌, eqb, ltb, List, [], ◌∷◌, ◌++◌, map, length, get_or, ℤ, pos, negsuc, neg_ℤ, Some, None, Ok, codes, decimal, Option, sym, refl, ap, ◌∙◌, append_assoc, append-nil, arith, length-append}
 use lib.Signed.{mag}
 use Rattle.std.specs.Fmt.{signed_decimal}
 use Rattle.std.specs.List.{AllByRecursion as All}
@@ -17,7 +17,7 @@ use Rattle.script.specs.declared.items.Item.TheVariants.{Operand, Immediate, Con
 use Rattle.script.specs.Text.{is_space, is_feed, before, words, words_after, lines, lines_after}
 use Rattle.script.specs.Numbers.{and_then, is_digit, decimal_after, below, number, behind, numbered, block_of, inst_of, value_of, immediate_from, immediate_of}
 use Rattle.script.specs.Names.{or_else, code_from, type_named, type_of, opcode_named, opcode_of, condition_named, condition_of}
-use Rattle.script.specs.Script.{ItemsSaid, item_of, with_item, no_items, items_of, types_of, none, one, inst, saying, Says, line_of, lines_of}
+use Rattle.script.specs.Script.{ItemsSaid, item_of, with_item, no_items, items_of, types_of, none, one, saying, Says, line_of, lines_of}
 use Rattle.script.specs.Spelled.{block_word, inst_word, value_word, item_words, spelled, spaced, written, Fits, InstFits, ReadsBack}
 use Rattle.script.proofs.Readings.{behind_front}
 
