@@ -1,7 +1,7 @@
 -- What the opcodes ask of counts, widths and immediates, as tests; operations of one kind ask the same.
 -- Assumes nothing.
 use Rattle.std.specs.Prelude.{◌≡◌, ℕ, Bool, true, false, ◌&&◌, T, List, map, ℤ, ◌==◌, nat_le, nat_lt}
-use Rattle.std.specs.List.{AllByRecursion as All}
+use Rattle.std.specs.List.{AllByRecursion}
 use Rattle.ir.specs.Entities.{values, arg_count, arg_widths}
 use Rattle.ir.specs.Widths.{Signature, is_integer, is_immediate}
 use Rattle.ir.specs.declared.constraints.OpcodeConstraints.{OpcodeConstraints}
@@ -98,7 +98,7 @@ immediate_fits Opaque w z = true
 -- an operation's result of width w and operands of the widths ws fit the opcode: all are integers, and the widths are in the opcode's relation
 pub record OperationFits (o : Opcode) (w : ℕ) (ws : List ℕ) : Type 0 where
   pub integer : T (is_integer w)
-  pub operands : All (λ v. T (is_integer v)) ws
+  pub operands : AllByRecursion (λ v. T (is_integer v)) ws
   pub signature : Signature o w ws
 
 -- the tests pass exactly where they fit, t telling the widths of values

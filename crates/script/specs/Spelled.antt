@@ -2,7 +2,7 @@
 use Rattle.std.specs.Prelude.{◌≡◌, ℕ, ◌^◌, ◌<◌, List, [], ◌∷◌, ◌++◌, map, Ok, codes, decimal}
 use Rattle.std.specs.Int.Signed.{mag}
 use Rattle.std.specs.Fmt.{signed_decimal}
-use Rattle.std.specs.List.{AllByRecursion as All}
+use Rattle.std.specs.List.{AllByRecursion}
 use Rattle.ir.specs.declared.entities.Block.{Block}
 use Rattle.ir.specs.declared.entities.Inst.{Inst}
 use Rattle.ir.specs.declared.entities.Value.{Value}
@@ -48,8 +48,8 @@ pub record InstFits (new : InstCall) : Type 0 where
   pub opcode : new.opcode < 2 ^ 8
   pub cond : new.cond < 2 ^ 8
   pub imm : mag new.imm < 2 ^ 63
-  pub args : All (λ v. v.0 < 2 ^ 32) new.args
-  pub types : All (λ t. t < 2 ^ 16) new.types
+  pub args : AllByRecursion (λ v. v.0 < 2 ^ 32) new.args
+  pub types : AllByRecursion (λ t. t < 2 ^ 16) new.types
 
 abbrev pub Fits : Call → Type 0
 Fits MakeBlock = Unit {0}
@@ -61,4 +61,4 @@ Fits ResolveAllAliases = Unit {0}
 
 -- every list of calls whose numbers fit can be written, and reads as itself
 abbrev pub ReadsBack : Type 0
-ReadsBack = (calls : List Call) → All Fits calls → script_of (written calls) ≡ Ok calls
+ReadsBack = (calls : List Call) → AllByRecursion Fits calls → script_of (written calls) ≡ Ok calls
