@@ -50,7 +50,7 @@ fn rank_from<G: Digraph>(graph: &G, root: Value, dfs: &mut Dfs)
 
 /// Ranks every node.
 fn rank_all<G: Digraph>(graph: &G, dfs: &mut Dfs)
-    requires { dfs.old.size ≡ size graph.now }
+    requires { dfs.old.size ≡ G.size graph.now }
     ensures { dfs.new.size ≡ dfs.old.size }
 {
     for v in 0..graph.num_nodes() {
@@ -84,8 +84,8 @@ fn all_lower(ranks: &[u16], v: Value, targets: Operands) -> bool
 
 /// Whether the ranks fall along every step from node to node.
 fn ranks_fall<G: Digraph>(graph: &G, ranks: &[u16]) -> bool
-    requires { length ranks.now ≡ size graph.now }
-    ensures { Decides result (RanksFall (steps graph.now) ranks.now) }
+    requires { length ranks.now ≡ G.size graph.now }
+    ensures { Decides result (RanksFall (G.steps graph.now) ranks.now) }
 {
     for v in 0..graph.num_nodes() {
         if !all_lower(ranks, Value(v), graph.targets(Value(v))) {
@@ -97,7 +97,7 @@ fn ranks_fall<G: Digraph>(graph: &G, ranks: &[u16]) -> bool
 
 /// Whether ranks from one depth-first search show that there is no loop.
 fn has_falling_ranks<G: Digraph>(graph: &G) -> bool
-    ensures { result ≡ true → Loopless (steps graph.now) }
+    ensures { result ≡ true → Loopless (G.steps graph.now) }
 {
     let mut dfs = Dfs::new(graph.num_nodes() as usize);
     rank_all(graph, &mut dfs);
@@ -109,7 +109,7 @@ fn has_falling_ranks<G: Digraph>(graph: &G) -> bool
 /// A graph without loops is gone through once, to rank its nodes, and once more, to see that the ranks fall along every
 /// step. Only where they do not is each node asked whether it reaches itself.
 pub fn is_loopless<G: Digraph>(graph: &G) -> bool
-    ensures { Decides result (Loopless (steps graph.now)) }
+    ensures { Decides result (Loopless (G.steps graph.now)) }
 {
     has_falling_ranks(graph) || lowest_in_loop(graph).is_none()
 }

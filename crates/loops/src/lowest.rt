@@ -29,8 +29,8 @@ fn meet_all(met: &mut Met, targets: Operands)
 
 /// Meets the nodes that `start` reaches in one step or more, and no others.
 fn search_from<G: Digraph>(graph: &G, start: Value, met: &mut Met)
-    requires { met.old.size ≡ size graph.now }
-    ensures reached { Reached (size graph.now) (steps graph.now) start.0 (nodes met.new) }
+    requires { met.old.size ≡ G.size graph.now }
+    ensures reached { Reached (G.size graph.now) (G.steps graph.now) start.0 (nodes met.new) }
     ensures size { met.new.size ≡ met.old.size }
 {
     let number = start.0;
@@ -45,7 +45,7 @@ fn search_from<G: Digraph>(graph: &G, start: Value, met: &mut Met)
 
 /// The lowest value in a loop, none where there is no loop.
 pub fn lowest_in_loop<G: Digraph>(graph: &G) -> Option<Value>
-    ensures { LowestLoop (steps graph.now) result }
+    ensures { LowestLoop (G.steps graph.now) result }
 {
     let size = graph.num_nodes();
     let mut met = Met::new(size as usize);

@@ -1,16 +1,15 @@
 -- An index lists the records of each kind. Assumes nothing.
-use Rattle.std.proofs.Common.{◌≡◌, ℕ, zero, suc, ◌+◌, ◌-◌, ◌<◌, ◌≤◌, Bool, true, false, cond, ltb, ◌⊎◌, List, [], ◌∷◌, ◌++◌, length, filter, sym, refl, ap, ◌∙◌, subst, inl, inr, add-zero, suc-add, zero-add, add-one, arith, length-take}
+use Rattle.std.proofs.Common.{◌≡◌, ℕ, zero, suc, ◌+◌, ◌-◌, ◌<◌, ◌≤◌, Bool, true, false, cond, ltb, List, [], ◌∷◌, ◌++◌, length, filter, sym, refl, ap, ◌∙◌, inl, inr, add-zero, suc-add, zero-add, arith, length-take}
 use Rattle.std.specs.List.{range_with_len}
 use Rattle.std.proofs.lemmas.List.Elements.{filter-append}
 use Rattle.std.proofs.lemmas.List.{append-nil, length-append}
 use Rattle.std.proofs.lemmas.Bool.{ltb-false}
 use Rattle.records.specs.Indexed.{Noted, with_noted}
-use Rattle.records.specs.Kinds.{is_value, is_inst, is_value_at, is_inst_at, kind_at}
+use Rattle.records.specs.Kinds.{is_value, is_inst, kind_at}
 use Rattle.records.specs.Listed.{listed}
 use Rattle.records.specs.declared.index.Index.{Index}
 use Rattle.records.specs.declared.places.Places.{Places}
-use Rattle.records.specs.declared.record.Kind.{Kind}
-use Rattle.records.specs.declared.record.Kind.TheVariants.{Value, Inst, Unknown}
+use Rattle.records.specs.declared.record.Kind.TheVariants.{Value, Inst}
 
 pub listed_few : (p : Places) → length (listed p) ≤ 1024
 unfolding listed

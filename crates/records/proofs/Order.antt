@@ -1,15 +1,15 @@
 -- Records that nothing stands against are in order. Assumes nothing.
-use Rattle.std.proofs.Common.{◌≡◌, ℕ, zero, suc, ◌+◌, ◌-◌, ◌<◌, ◌≤◌, Bool, true, false, cond, not, ◌&&◌, ◌||◌, ltb, ◌⊎◌, List, [], ◌∷◌, ◌++◌, length, get_or, Some, None, filter, Option, sym, refl, ap, ◌∙◌, subst, inl, inr, add-one, arith}
+use Rattle.std.proofs.Common.{◌≡◌, ℕ, zero, suc, ◌+◌, ◌-◌, ◌<◌, ◌≤◌, Bool, true, false, cond, not, ◌||◌, ◌⊎◌, List, [], ◌∷◌, ◌++◌, length, get_or, Some, None, filter, Option, sym, refl, ap, ◌∙◌, inl, inr, add-one, arith}
 use Rattle.std.specs.List.{range_with_len}
 use Rattle.std.proofs.lemmas.List.FromFn.{length-range_with_len}
-use Rattle.std.proofs.lemmas.Bool.{and_parts, cases_Bool, false≢true, leb-true, ltb-false, not-true, not-false}
+use Rattle.std.proofs.lemmas.Bool.{and_parts, cases_Bool, false≢true, leb-true, ltb-false, not-true}
 use Rattle.ir.specs.declared.refusal.Cause.{Cause}
 use Rattle.ir.proofs.Faults.{none_stands}
 use Rattle.records.specs.Faults.{behind_inst, fault_by, is_whole, record_fault, records_refusal, value_shape}
 use Rattle.records.specs.Fields.{record_at, record_count, value_record}
 use Rattle.records.specs.Indexed.{with_noted}
 use Rattle.records.specs.Kinds.{kind_at, is_value, is_inst, is_value_at, is_inst_at, value_places, inst_places}
-use Rattle.records.specs.Order.{ValuesFirst, CleanInOrder}
+use Rattle.records.specs.Order.{CleanInOrder}
 use Rattle.records.specs.declared.record.Kind.{Kind}
 use Rattle.records.specs.declared.record.Kind.TheVariants.{Value, Inst, Unknown}
 use Rattle.records.proofs.Clean.{clean_kind, not_whole, whole}

@@ -1,5 +1,5 @@
 -- The format of an image, field by field: records of 40 bytes with no header, numbers little-endian. Assumes nothing.
-use Rattle.std.specs.Prelude.{ℕ, zero, suc, ◌+◌, ◌-◌, ◌*◌, ◌/◌, ◌%◌, Bool, true, cond, ◌&&◌, List, [], ◌∷◌, length, take, drop, replicate, ◌==◌, nat_lt, slice_index, slice_range}
+use Rattle.std.specs.Prelude.{ℕ, zero, suc, ◌+◌, ◌*◌, ◌/◌, ◌%◌, Bool, true, cond, ◌&&◌, List, [], ◌∷◌, length, take, drop, replicate, ◌==◌, nat_lt, slice_index, slice_range}
 use Rattle.ir.specs.Bitvectors.{signed}
 use Rattle.records.specs.declared.inst_record.InstRecord.{InstRecord}
 use Rattle.records.specs.declared.record.Kind.{Kind}

@@ -1,5 +1,5 @@
 -- What an index of records says. Assumes nothing.
-use Rattle.std.specs.Prelude.{◌≡◌, ℕ, ◌<◌, Bool, true, false, cond, not, ◌||◌, ltb, ◌⊎◌, List, [], ◌∷◌, ◌++◌, length, Some, None, Option}
+use Rattle.std.specs.Prelude.{◌≡◌, ℕ, ◌<◌, Bool, true, false, cond, ◌⊎◌, List, [], ◌∷◌, ◌++◌, length, Some, None, Option}
 use Rattle.records.specs.Kinds.{is_value_at, is_inst_at, value_places, inst_places}
 use Rattle.records.specs.Listed.{listed}
 use Rattle.records.specs.declared.index.Index.{Index}

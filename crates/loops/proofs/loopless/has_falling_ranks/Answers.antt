@@ -6,4 +6,4 @@ pub returns : goal.returns
 returns g c holds =
     let graph = c.args.graph.now in
     falling_loopless (g.G.Digraph.steps graph) c.ranks.result.now (g.G.Digraph.size graph) (g.G.Digraph.finite graph)
-    (c.ranks.ensures ∙ c.rank-all.ensures ∙ c.new-dfs.ensures ∙ c.num-nodes.ensures) (c.ranks_fall.ensures.0 holds)
+    (c.ranks.ensures ∙ c.rank_all.ensures ∙ c.new-dfs.ensures ∙ c.num_nodes.ensures) (c.ranks_fall.ensures.0 holds)

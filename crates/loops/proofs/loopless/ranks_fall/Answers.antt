@@ -4,12 +4,12 @@ use Rattle.loops.specs.Ranks.{all_lower}
 use Rattle.loops.proofs.Falling.{ranks_fall, falling_lower}
 use Rattle.loops.proofs.loopless.ranks_fall.Goals as goal
 
-pub returns-then-not-all-lower : goal.returns-then-not-all-lower
-returns-then-not-all-lower g c =
+pub returns-then-not-all_lower : goal.returns-then-not-all_lower
+returns-then-not-all_lower g c =
     let ranks = c.args.ranks.now in
     let v = c.loop-v.v in (
       (λ e. absurd (both_ways false refl e)),
-      (λ falls. c.if-not-all-lower.ensures ∙ ap (all_lower ranks v) c.targets.ensures ∙ falling_lower (g.G.Digraph.steps c.args.graph.now) ranks falls v),
+      (λ falls. c.if-not-all_lower.ensures ∙ ap (all_lower ranks v) c.targets.ensures ∙ falling_lower (g.G.Digraph.steps c.args.graph.now) ranks falls v),
     )
 
 pub returns : goal.returns

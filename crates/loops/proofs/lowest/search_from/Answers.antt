@@ -9,14 +9,14 @@ pub loop-u-init : goal.loop-u-init
 loop-u-init g c =
     let graph = c.args.graph.now in
     let size = c.clear.ensures.size ∙ c.requires in (
-      c.meet-all.ensures.size ∙ size,
+      c.meet_all.ensures.size ∙ size,
       spreads_start (g.G.Digraph.size graph) (g.G.Digraph.steps graph) c.args.start.0
-          c.clear.new.self.size (nodes c.clear.new.self) (nodes c.meet-all.new.met) (values c.targets.result)
-          size c.clear.ensures.nodes c.targets.ensures c.meet-all.ensures.nodes,
+          c.clear.new.self.size (nodes c.clear.new.self) (nodes c.meet_all.new.met) (values c.targets.result)
+          size c.clear.ensures.nodes c.targets.ensures c.meet_all.ensures.nodes,
     )
 
-pub overflow-add-done : goal.overflow-add-done
-overflow-add-done g c = omega (arith, few_nodes c.loop-u.met, c.in-Some.ensures.0)
+pub overflow_add-done : goal.overflow_add-done
+overflow_add-done g c = omega (arith, few_nodes c.loop-u.met, c.in-Some.ensures.0)
 
 pub loop-u-smaller : goal.loop-u-smaller
 loop-u-smaller g c = omega (arith, few_nodes c.loop-u.met, c.in-Some.ensures.0)
@@ -28,10 +28,10 @@ loop-u-preserved g c =
     let m = c.loop-u.met in
     let inv = c.loop-u.invariant in
     let at = c.in-Some.ensures in (
-      c.meet-all-in-Some.ensures.size ∙ inv.0,
+      c.meet_all-in-Some.ensures.size ∙ inv.0,
       spreads_more (g.G.Digraph.size graph) steps c.args.start.0
-          m.size (nodes m) (nodes c.meet-all-in-Some.new.met) (values c.targets-in-Some.result) c.loop-u.done
-          inv.1 inv.0 at.0 (c.targets-in-Some.ensures ∙ ap steps at.1) c.meet-all-in-Some.ensures.nodes,
+          m.size (nodes m) (nodes c.meet_all-in-Some.new.met) (values c.targets-in-Some.result) c.loop-u.done
+          inv.1 inv.0 at.0 (c.targets-in-Some.ensures ∙ ap steps at.1) c.meet_all-in-Some.ensures.nodes,
     )
 
 pub returns : goal.returns
@@ -39,6 +39,6 @@ returns g c =
     let graph = c.args.graph.now in
     let inv = c.loop-u.invariant in
     record {
-      reached = spreads_end (g.G.Digraph.size graph) (g.G.Digraph.steps graph) (g.G.Digraph.finite graph) c.args.start.0 (nodes c.loop-u.met) c.loop-u.done inv.1 c.in-default.ensures;
+      reached = spreads_end (g.G.Digraph.size graph) (g.G.Digraph.steps graph) (g.G.Digraph.finite graph) c.args.start.0 (nodes c.loop-u.met) c.loop-u.done inv.1 c.in_default.ensures;
       size = inv.0 ∙ sym c.requires;
     }

@@ -1,4 +1,4 @@
-use Rattle.std.proofs.Common.{◌≡◌, ℕ, ◌-◌, ◌<◌, ◌≤◌, length, sym, ap, ◌∙◌, arith}
+use Rattle.std.proofs.Common.{◌≡◌, ◌-◌, length, sym, ap, ◌∙◌, arith}
 use Rattle.ir.specs.Refusals.{answer_unless, first_fault}
 use Rattle.ir.proofs.Faults.{fault_here, fault_on, fault_end}
 use Rattle.rows.specs.Rows.{Rows}
@@ -25,7 +25,7 @@ pub loop-v-preserved : goal.loop-v-preserved
 loop-v-preserved c =
     let s = c.args.self in
     let p : Rows = rows_in s.bytes.now s.counts in
-    c.loop-v.invariant ∙ fault_on (row_fault p) c.loop-v.v s.counts.values (omega arith) (sym c.in-default.ensures)
+    c.loop-v.invariant ∙ fault_on (row_fault p) c.loop-v.v s.counts.values (omega arith) (sym c.in_default.ensures)
 
 pub returns : goal.returns
 returns c =

@@ -1,4 +1,4 @@
-use Rattle.std.proofs.Common.{◌≡◌, ℕ, ◌-◌}
+use Rattle.std.proofs.Common.{◌≡◌, ◌-◌}
 use Rattle.ir.specs.Refusals.{first_fault}
 use Rattle.image.specs.Held.{rows_in}
 use Rattle.image.specs.Verdict.{row_fault, widths_refusal}

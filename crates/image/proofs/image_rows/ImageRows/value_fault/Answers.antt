@@ -5,4 +5,4 @@ use Rattle.image.proofs.image_rows.ImageRows.value_fault.Goals as goal
 
 pub returns : goal.returns
 unfolding row_fault
-returns c = c.row-fault.ensures ∙ ap (row_fault_in (rows_in c.args.self.bytes.now c.args.self.counts)) c.value-data.ensures
+returns c = c.row_fault.ensures ∙ ap (row_fault_in (rows_in c.args.self.bytes.now c.args.self.counts)) c.value_data.ensures

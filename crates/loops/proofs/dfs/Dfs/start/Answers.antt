@@ -3,7 +3,11 @@ use Rattle.std.proofs.lemmas.List.Sums.{count_by-le-length}
 use Rattle.loops.proofs.Meetings.{inside_more}
 use Rattle.loops.proofs.dfs.Dfs.start.Goals as goal
 
-pub invariant-of-self : goal.invariant-of-self
-invariant-of-self c =
+pub invariant_of-self : goal.invariant_of-self
+invariant_of-self c =
     let d = c.args.self.now in
-    (d.few, (omega (arith, count_by-le-length not d.opened), (inside_more d.stack 0 c.args.root.0 (omega arith) d.size (λ k h. absurd (omega arith)) (omega arith), tt)))
+    record {
+      few = d.few;
+      room = omega (arith, count_by-le-length not d.opened);
+      inside = inside_more d.stack 0 c.args.root.0 (omega arith) d.size (λ k h. absurd (omega arith)) (omega arith);
+    }

@@ -6,24 +6,18 @@ use Rattle.loops.proofs.met.Met.insert.Goals.{else-i-self-via-then-i-self+else-n
 pub bounds-self-self : goal.bounds-self-self
 bounds-self-self c = omega (arith, one_fewer c.args.self.now.marks c.args.w.0 (omega arith) c.if-not-self-i.true)
 
-pub invariant-of-self : goal.invariant-of-self
-invariant-of-self c =
+pub invariant_of-self : goal.invariant_of-self
+invariant_of-self c =
     let m = c.args.self.now in
     let w = c.args.w.0 in
     let fewer : count_by not (set m.marks w true) + 1 ≡ count_by not m.marks = one_fewer m.marks w (omega arith) c.if-not-self-i.true in
-    let free : m.len < length m.queue = omega arith in (
-      m.few,
-      (
-        omega arith,
-        (
-          inside_more m.queue m.len w free m.size m.inside (omega arith),
-          (
-            marked_more m.queue m.len w free m.marks (omega arith) m.marked,
-            tt,
-          ),
-        ),
-      ),
-    )
+    let free : m.len < length m.queue = omega arith in
+    record {
+      few = m.few;
+      room = omega arith;
+      inside = inside_more m.queue m.len w free m.size m.inside (omega arith);
+      marked = marked_more m.queue m.len w free m.marks (omega arith) m.marked;
+    }
 
 pub returns-then-not-self-i : goal.returns-then-not-self-i
 returns-then-not-self-i c =

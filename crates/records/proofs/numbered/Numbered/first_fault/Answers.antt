@@ -7,8 +7,8 @@ use Rattle.records.proofs.Clean.{few_clean}
 use Rattle.records.proofs.Indexing.{listed_few}
 use Rattle.records.proofs.numbered.Numbered.first_fault.Goals as goal
 
-pub overflow-cast-result : goal.overflow-cast-result
-overflow-cast-result c =
+pub overflow_cast-result : goal.overflow_cast-result
+overflow_cast-result c =
     let s = c.args.self in
     let inside : c.loop-k.k ≤ record_count s.bytes.now = omega arith in
     omega (
@@ -36,7 +36,7 @@ pub loop-k-preserved : goal.loop-k-preserved
 loop-k-preserved c =
     let bs = c.args.self.bytes.now in
     let inside : c.loop-k.k < record_count bs = omega arith in
-    let clean : record_fault bs c.loop-k.k ≡ None = sym c.in-default.ensures in
+    let clean : record_fault bs c.loop-k.k ≡ None = sym c.in_default.ensures in
     (c.loop-k.invariant.0 ∙ fault_on (record_fault bs) c.loop-k.k (record_count bs) inside clean, below_more _ _ c.loop-k.invariant.1 clean)
 
 pub returns : goal.returns

@@ -9,7 +9,7 @@ unfolding record_fault
 returns-in-Value c =
     let bs = c.args.self.bytes.now in
     let k = c.args.k in
-    c.value-fault.ensures ∙ ap (λ v. first (value_checks bs k v)) (c.value.ensures ∙ ap value_record c.record-record.ensures)
+    c.value_fault.ensures ∙ ap (λ v. first (value_checks bs k v)) (c.value.ensures ∙ ap value_record c.record-record.ensures)
     ∙ ap (fault_by bs k) (c.in-Value.ensures ∙ ap kind_of c.record-record.ensures)
 
 pub returns-in-Inst : goal.returns-in-Inst
@@ -17,7 +17,7 @@ unfolding record_fault
 returns-in-Inst c =
     let bs = c.args.self.bytes.now in
     let k = c.args.k in
-    c.inst-fault.ensures ∙ ap (λ i. first (inst_checks bs k i)) (c.inst.ensures ∙ ap inst_record c.record-record.ensures)
+    c.inst_fault.ensures ∙ ap (λ i. first (inst_checks bs k i)) (c.inst.ensures ∙ ap inst_record c.record-record.ensures)
     ∙ ap (fault_by bs k) (c.in-Inst.ensures ∙ ap kind_of c.record-record.ensures)
 
 pub returns-in-Unknown : goal.returns-in-Unknown

@@ -1,5 +1,4 @@
 use Rattle.std.proofs.Common.{ap, ◌∙◌}
-use Rattle.records.specs.Faults.{value_at}
 use Rattle.records.specs.Fields.{record_at, value_record}
 use Rattle.records.specs.Kinds.{value_places}
 use Rattle.records.specs.Listed.{listed}

@@ -4,4 +4,4 @@ use Rattle.records.proofs.record.Record.u16_at.Goals as goal
 
 pub returns : goal.returns
 unfolding number
-returns c = rw add-zero (omega (arith, c.from-le-bytes.ensures))
+returns c = rw add-zero (omega (arith, c.from_le_bytes.ensures))
