@@ -1,4 +1,4 @@
--- What the verdict on bytes is. Assumes nothing.
+-- What is to hold of the verdict on bytes. Stated, and not proved yet: no contract names these. Assumes nothing.
 use Rattle.std.specs.Prelude.{◌≡◌, ℕ, ◌↔◌, List, None, Result}
 use Rattle.ir.specs.declared.refusal.Refusal.{Refusal}
 use Rattle.rows.specs.WellFormed.{WellFormed}
