@@ -4,7 +4,7 @@ ghost use Rattle.std.specs.Borrow.{sem, follows};
 ghost use Rattle.std.specs.Vec.{with_item};
 ghost use Rattle.rows.specs.Rows.{original, erased, empty};
 ghost use Rattle.rows.specs.WellFormed.{Settled};
-ghost use Rattle.rows.specs.contracts.instruction.InstructionData.{the_row as inst-row};
+ghost use Rattle.rows.specs.contracts.instruction.InstructionData.{the_row as the_inst_row};
 ghost use Rattle.calls.specs.Calls.{AppendBlockParam, AppendInst, ClearResults, ChangeToAlias, ResolveAllAliases, inst_of};
 ghost use Rattle.plain.specs.Attached.{param_count, map_args, rewritten, is_param_of};
 ghost use Rattle.dfg.specs.Held.{held, Room};
@@ -123,7 +123,7 @@ impl Tables {
     /// The row of an instruction, to change in place.
     fn inst_mut(&mut self, i: usize) -> &mut InstructionData
         requires { i < vec_len self.old.insts }
-        ensures* follows { sem 𝓛 (follows the_row inst-row self.entry.ghost_name result.ghost_name (λ w. record { values = self.old.values; insts = with_item self.old.insts i w; blocks = self.old.blocks })) }
+        ensures* follows { sem 𝓛 (follows the_row the_inst_row self.entry.ghost_name result.ghost_name (λ w. record { values = self.old.values; insts = with_item self.old.insts i w; blocks = self.old.blocks })) }
         ensures value { result.now ≡ slice_index_or self.old.insts.items i result.now }
     {
         &mut self.insts[i]

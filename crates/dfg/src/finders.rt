@@ -1,5 +1,5 @@
 // The visitors that look for what a new alias would make a loop of.
-ghost use Rattle.std.specs.Prelude.{◌≡◌, ◌<◌, true, false, ◌||◌, get_or, slice_index_or, slice_set};
+ghost use Rattle.std.specs.Prelude.{◌≡◌, ◌<◌, true, false, ◌||◌, slice_index_or, slice_set};
 ghost use Rattle.ir.specs.Entities.{values};
 ghost use Rattle.flow.specs.Meaning.{uses};
 ghost use Rattle.rows.specs.Meaning.{flow as flow_of};
@@ -97,7 +97,7 @@ pub(crate) fn lowest_marked(marked: &[bool], root: Value, count: u32) -> u32
 
 /// Whether one of the operands is marked.
 fn any_marked(marked: &[bool], args: Operands) -> bool
-    ensures { result ≡ any_of (λ u. get_or marked.now u false) (values args) }
+    ensures { result ≡ any_of (λ u. slice_index_or marked.now u false) (values args) }
 {
     match args {
         Operands::Nullary => false,
@@ -124,7 +124,7 @@ pub struct LoopMarker<'a> {
 impl LoopMarker<'_> {
     /// Whether a value whose operands were shown reaches a value whose aliases lead through the destination.
     fn reaches(&self, v: Value) -> bool
-        ensures { result ≡ (through self.now.graph.now.tables.values.items self.now.dest.0 v.0 || any_of (λ u. get_or self.now.marked u false) (uses (flow_of (plain self.now.graph.now)) v.0)) }
+        ensures { result ≡ (through self.now.graph.now.tables.values.items self.now.dest.0 v.0 || any_of (λ u. slice_index_or self.now.marked u false) (uses (flow_of (plain self.now.graph.now)) v.0)) }
     {
         let args = value_args(self.graph, v);
         self.graph.tables.leads_through(v, self.dest) || any_marked(&self.marked, args)

@@ -8,7 +8,7 @@ use Rattle.ir.specs.Constraints.{constraints_of}
 use Rattle.ir.specs.Entities.{values}
 use Rattle.ir.specs.declared.constraints.OpcodeConstraints.{OpcodeConstraints}
 use Rattle.ir.specs.declared.constraints.OpcodeConstraints.TheVariants as kind
-use Rattle.ir.specs.declared.entities.Inst.{Inst as Ir-as-Inst}
+use Rattle.ir.specs.declared.entities.Inst.{Inst as IrInst}
 use Rattle.ir.specs.declared.entities.Value.{Value}
 use Rattle.ir.specs.declared.instructions.Operands.{Operands}
 use Rattle.ir.specs.declared.instructions.Operands.TheVariants.{Nullary, Unary, Binary, Ternary}
@@ -93,7 +93,7 @@ def_cleared kind.Extend i = refl
 def_cleared kind.Compare i = refl
 def_cleared kind.Opaque i = refl
 
-same_defs : (p : Rows) (i : Ir-as-Inst) → i.0 < length p.insts → (row : ValueData) → def_in (grown p (ClearResults i)) row ≡ def_in p row
+same_defs : (p : Rows) (i : IrInst) → i.0 < length p.insts → (row : ValueData) → def_in (grown p (ClearResults i)) row ≡ def_in p row
 same_defs p i l (Inst ty num k) =
     same_part inst_def p.insts i.0 (cleared (inst_at p i.0)) no_inst (def_cleared (constraints_of (inst_at p i.0).opcode) (inst_at p i.0)) l k.0
 same_defs p i l (Param ty num b) = refl
@@ -101,7 +101,7 @@ same_defs p i l (Alias ty o) = refl
 same_defs p i l (Union ty x y) = refl
 same_defs p i l Deleted = refl
 
-pub clear_no_loop : (p : Rows) (i : Ir-as-Inst) → i.0 < length p.insts → NoLoop (flow p) → NoLoop (flow (grown p (ClearResults i)))
+pub clear_no_loop : (p : Rows) (i : IrInst) → i.0 < length p.insts → NoLoop (flow p) → NoLoop (flow (grown p (ClearResults i)))
 clear_no_loop p i l none =
     let q : Rows = grown p (ClearResults i) in
     rows_no_loop q (same_loop (uses_in p) (uses_in q) (λ v. ap used (same_defs p i l (value_at p (original p v)))) (rows_loopless p none))

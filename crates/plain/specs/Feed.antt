@@ -8,7 +8,7 @@ use Rattle.ir.specs.declared.condcodes.IntCC.{IntCC}
 use Rattle.ir.specs.declared.condcodes.IntCC.TheVariants.{Equal}
 use Rattle.ir.specs.declared.constraints.OpcodeConstraints.{OpcodeConstraints}
 use Rattle.ir.specs.declared.entities.Block.{Block}
-use Rattle.ir.specs.declared.entities.Inst.{Inst as Ir-as-Inst}
+use Rattle.ir.specs.declared.entities.Inst.{Inst as IrInst}
 use Rattle.ir.specs.declared.entities.Value.{Value}
 use Rattle.ir.specs.declared.instructions.Operands.{Operands}
 use Rattle.ir.specs.declared.instructions.Operands.TheVariants.{Nullary}
@@ -179,7 +179,7 @@ next_block p = record { 0 = p.blocks }
 abbrev pub next_value : Rows → Value
 next_value p = record { 0 = length p.values }
 
-abbrev pub next_inst : Rows → Ir-as-Inst
+abbrev pub next_inst : Rows → IrInst
 next_inst p = record { 0 = length p.insts }
 
 -- what a call that is not refused answers: the number of what it makes
