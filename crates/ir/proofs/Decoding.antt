@@ -1,8 +1,7 @@
--- Codes and cases go with each other: a decoder that answers what has a code answers what the code stands for.
+-- The code of each case stands for that case.
 -- Assumes nothing.
-use Rattle.std.proofs.Common.{◌≡◌, ℕ, ◌<◌, Some, None, Option, sym, refl, ap, ◌∙◌, arith, MatchOption}
-use Rattle.std.proofs.lemmas.List.{get_or_past}
-use Rattle.ir.specs.Codes.{opcode_code, intcc_code, opcodes, opcode_at, intccs, intcc_at}
+use Rattle.std.proofs.Common.{◌≡◌, Some, refl}
+use Rattle.ir.specs.Codes.{opcode_code, intcc_code, opcode_at, intcc_at}
 use Rattle.ir.specs.declared.opcodes.Opcode.{Opcode}
 use Rattle.ir.specs.declared.opcodes.Opcode.TheVariants.{Iconst, Iadd, Imul, Udiv, Sdiv, Urem, Srem, Band, Bor, Bxor, Bnot, Ishl, Sshr, Ushr, Select, Uextend, Sextend, Icmp, Popcnt, Bitrev, Clz, Ctz, SaddSat, SsubSat, UsubSat, Opaque}
 use Rattle.ir.specs.declared.condcodes.IntCC.{IntCC}
@@ -36,10 +35,6 @@ opcode_code_lem SsubSat = refl
 opcode_code_lem UsubSat = refl
 opcode_code_lem Opaque = refl
 
-pub opcode_decoded : (r : Option Opcode) (code : ℕ) → MatchOption r (25 < code) (λ o. opcode_code o ≡ code) → r ≡ opcode_at code
-opcode_decoded None code h = sym (get_or_past opcodes code None (omega (arith, h)))
-opcode_decoded (Some o) code h = sym (opcode_code_lem o) ∙ ap opcode_at h
-
 pub intcc_code_lem : (c : IntCC) → intcc_at (intcc_code c) ≡ Some c
 intcc_code_lem Equal = refl
 intcc_code_lem NotEqual = refl
@@ -51,7 +46,3 @@ intcc_code_lem UnsignedLessThan = refl
 intcc_code_lem UnsignedGreaterThanOrEqual = refl
 intcc_code_lem UnsignedGreaterThan = refl
 intcc_code_lem UnsignedLessThanOrEqual = refl
-
-pub intcc_decoded : (r : Option IntCC) (code : ℕ) → MatchOption r (9 < code) (λ c. intcc_code c ≡ code) → r ≡ intcc_at code
-intcc_decoded None code h = sym (get_or_past intccs code None (omega (arith, h)))
-intcc_decoded (Some c) code h = sym (intcc_code_lem c) ∙ ap intcc_at h

@@ -1,6 +1,6 @@
 -- The numbers of opcodes, conditions, types and refusals go with their cases, one to one.
 -- Assumes nothing.
-use Rattle.std.proofs.Common.{◌≡◌, ℕ, zero, suc, ◌+◌, Bool, true, false, cond, eqb, List, [], ◌∷◌, get_or, Some, None, Option, sym, refl, ap, ◌∙◌, arith}
+use Rattle.std.proofs.Common.{◌≡◌, ℕ, zero, suc, ◌+◌, Bool, true, false, cond, eqb, List, [], ◌∷◌, get_or, slice_get, Some, None, Option, sym, refl, ap, ◌∙◌, arith}
 use Rattle.std.proofs.lemmas.Bool.{eqb-true}
 use Rattle.ir.specs.Codes.{opcode_code, opcodes, intcc_code, intccs, type_bits, type_at, cause_number, OpcodeCodes, IntCCCodes, TypeBits, CauseNumbers}
 use Rattle.ir.specs.declared.refusal.Cause.{Cause}
@@ -13,16 +13,14 @@ no_some : {A : Type 0} (x : A) → None ≡ Some x → ⊥
 no_some x e = let z : ◌≡◌ {A = ℕ} 0 1 = cc in omega arith
 
 -- a table whose entries, from number n on, have their own places as codes
-abbrev Coded : {A : Type 0} → (A → ℕ) → ℕ → List (Option A) → Type 0
+abbrev Coded : {A : Type 0} → (A → ℕ) → ℕ → List A → Type 0
 Coded code n [] = Unit {0}
-Coded code n (None ∷ xs) = ⊥
-Coded code n (Some x ∷ xs) = (code x ≡ n) × Coded code (suc n) xs
+Coded code n (x ∷ xs) = (code x ≡ n) × Coded code (suc n) xs
 
-at_place : {A : Type 0} (code : A → ℕ) (n : ℕ) (xs : List (Option A)) → Coded code n xs → (k : ℕ) (x : A) → get_or xs k None ≡ Some x → code x ≡ k + n
+at_place : {A : Type 0} (code : A → ℕ) (n : ℕ) (xs : List A) → Coded code n xs → (k : ℕ) (x : A) → slice_get xs k ≡ Some x → code x ≡ k + n
 at_place code n [] c k x e = absurd (no_some x e)
-at_place code n (None ∷ xs) c k x e = absurd c
-at_place code n (Some y ∷ xs) c zero x e = let same : y ≡ x = cc in ap code (sym same) ∙ c.0 ∙ omega arith
-at_place code n (Some y ∷ xs) c (suc k) x e = omega (arith, at_place code (suc n) xs c.1 k x e)
+at_place code n (y ∷ xs) c zero x e = let same : y ≡ x = cc in ap code (sym same) ∙ c.0 ∙ omega arith
+at_place code n (y ∷ xs) c (suc k) x e = omega (arith, at_place code (suc n) xs c.1 k x e)
 
 coded_opcodes : Coded opcode_code 0 opcodes
 coded_opcodes = (refl, (refl, (refl, (refl, (refl, (refl, (refl, (refl, (refl, (refl, (refl, (refl, (refl, (refl, (refl, (refl, (refl, (refl, (refl, (refl, (refl, (refl, (refl, (refl, (refl, (refl, tt))))))))))))))))))))))))))

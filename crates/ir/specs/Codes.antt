@@ -1,6 +1,6 @@
 -- How a caller knows the opcodes, conditions, words, types and refusals: by their numbers, and by their names and words.
 -- One definition for each enum gives every case all that it is known by. Assumes nothing.
-use Rattle.std.specs.Prelude.{◌≡◌, ℕ, cond, List, [], ◌∷◌, Some, None, codes, Option, ◌==◌, ◌≢◌, slice_index_or}
+use Rattle.std.specs.Prelude.{◌≡◌, ℕ, cond, List, [], ◌∷◌, Some, None, Ok, Err, codes, Option, Result, ◌==◌, ◌≢◌, slice_get}
 use Rattle.std.specs.Option.{unwrap_or}
 use Rattle.ir.specs.declared.opcodes.Opcode.{Opcode}
 use Rattle.ir.specs.declared.opcodes.Opcode.TheVariants.{Iconst, Iadd, Imul, Udiv, Sdiv, Urem, Srem, Band, Bor, Bxor, Bnot, Ishl, Sshr, Ushr, Select, Uextend, Sextend, Icmp, Popcnt, Bitrev, Clz, Ctz, SaddSat, SsubSat, UsubSat, Opaque}
@@ -12,6 +12,11 @@ use Rattle.ir.specs.declared.types.Type as T
 use Rattle.ir.specs.declared.types.Type.TheVariants.{Invalid, Other, I8, I16, I32, I64}
 use Rattle.ir.specs.declared.words.Word.{Word}
 use Rattle.ir.specs.declared.words.Word.TheVariants as word
+
+-- what a number stands for, or the refusal of an unknown one
+abbrev pub known : {A : Type 0} → Option A → Result A Cause
+known None = Err Unknown
+known (Some x) = Ok x
 
 -- ---- opcodes
 
@@ -59,12 +64,13 @@ opcode_name o = (opcode_entry o).name
 abbrev pub opcode_word : Opcode → Option Word
 opcode_word o = (opcode_entry o).word
 
--- what a code stands for, none where it is unknown
-abbrev pub opcodes : List (Option Opcode)
-opcodes = Some Iconst ∷ Some Iadd ∷ Some Imul ∷ Some Udiv ∷ Some Sdiv ∷ Some Urem ∷ Some Srem ∷ Some Band ∷ Some Bor ∷ Some Bxor ∷ Some Bnot ∷ Some Ishl ∷ Some Sshr ∷ Some Ushr ∷ Some Select ∷ Some Uextend ∷ Some Sextend ∷ Some Icmp ∷ Some Popcnt ∷ Some Bitrev ∷ Some Clz ∷ Some Ctz ∷ Some SaddSat ∷ Some SsubSat ∷ Some UsubSat ∷ Some Opaque ∷ []
+-- every opcode, in the order of the codes
+abbrev pub opcodes : List Opcode
+opcodes = Iconst ∷ Iadd ∷ Imul ∷ Udiv ∷ Sdiv ∷ Urem ∷ Srem ∷ Band ∷ Bor ∷ Bxor ∷ Bnot ∷ Ishl ∷ Sshr ∷ Ushr ∷ Select ∷ Uextend ∷ Sextend ∷ Icmp ∷ Popcnt ∷ Bitrev ∷ Clz ∷ Ctz ∷ SaddSat ∷ SsubSat ∷ UsubSat ∷ Opaque ∷ []
 
+-- what a code stands for, none where it is unknown
 abbrev pub opcode_at : ℕ → Option Opcode
-opcode_at n = slice_index_or opcodes n None
+opcode_at n = slice_get opcodes n
 
 -- ---- conditions
 
@@ -95,11 +101,13 @@ intcc_name c = (intcc_entry c).name
 abbrev pub intcc_word : IntCC → Option Word
 intcc_word c = (intcc_entry c).word
 
-abbrev pub intccs : List (Option IntCC)
-intccs = Some Equal ∷ Some NotEqual ∷ Some SignedLessThan ∷ Some SignedGreaterThanOrEqual ∷ Some SignedGreaterThan ∷ Some SignedLessThanOrEqual ∷ Some UnsignedLessThan ∷ Some UnsignedGreaterThanOrEqual ∷ Some UnsignedGreaterThan ∷ Some UnsignedLessThanOrEqual ∷ []
+-- every condition, in the order of the codes
+abbrev pub intccs : List IntCC
+intccs = Equal ∷ NotEqual ∷ SignedLessThan ∷ SignedGreaterThanOrEqual ∷ SignedGreaterThan ∷ SignedLessThanOrEqual ∷ UnsignedLessThan ∷ UnsignedGreaterThanOrEqual ∷ UnsignedGreaterThan ∷ UnsignedLessThanOrEqual ∷ []
 
+-- what a code stands for, none where it is unknown
 abbrev pub intcc_at : ℕ → Option IntCC
-intcc_at n = slice_index_or intccs n None
+intcc_at n = slice_get intccs n
 
 -- ---- Souper's words
 
@@ -152,6 +160,15 @@ type_at n = cond (n == 1) (Some Other) (cond (n == 8) (Some I8) (cond (n == 16) 
 -- the type of so many bits, the invalid one where no live value has so many
 abbrev pub type_or : ℕ → T.Type
 type_or n = unwrap_or (type_at n) Invalid
+
+-- a type's name, as a script writes it
+abbrev pub type_name : T.Type → List ℕ
+type_name Invalid = codes "invalid"
+type_name Other = codes "other"
+type_name I8 = codes "i8"
+type_name I16 = codes "i16"
+type_name I32 = codes "i32"
+type_name I64 = codes "i64"
 
 -- ---- refusals
 

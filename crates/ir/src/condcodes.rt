@@ -1,7 +1,10 @@
-ghost use Rattle.std.specs.Prelude.{◌≡◌, ◌<◌, MatchOption};
-ghost use Rattle.ir.specs.Codes.{intcc_code, intcc_name, intcc_word, intcc_at};
+ghost use Rattle.std.specs.Prelude.{◌≡◌, Some};
+ghost use Rattle.ir.specs.Codes.{intcc_code, intcc_name, intcc_word, intcc_at, known};
 
+use crate::codes::coded;
+use crate::refusal::Cause;
 use crate::words::Word;
+use std::fmt;
 
 /// The conditions of an integer comparison, in the order of their codes.
 #[derive(Clone, Copy, PartialEq, Eq, Debug)]
@@ -19,38 +22,19 @@ pub enum IntCC {
 }
 
 impl IntCC {
-    /// The number by which a caller knows the condition.
-    pub fn code(self) -> u8
-        ensures { result ≡ intcc_code self }
-    {
-        self as u8
-    }
-
-    /// The condition of a code, or none for an unknown code.
-    pub fn from_code(code: u8) -> Option<IntCC>
-        ensures { result ≡ intcc_at code }
-    {
-        IntCC::coded(code)
-    }
-
-    /// The condition that has the code, if there is one.
-    fn coded(code: u8) -> Option<IntCC>
-        ensures { MatchOption result (9 < code) (λ c. intcc_code c ≡ code) }
-    {
-        match code {
-            0 => Some(IntCC::Equal),
-            1 => Some(IntCC::NotEqual),
-            2 => Some(IntCC::SignedLessThan),
-            3 => Some(IntCC::SignedGreaterThanOrEqual),
-            4 => Some(IntCC::SignedGreaterThan),
-            5 => Some(IntCC::SignedLessThanOrEqual),
-            6 => Some(IntCC::UnsignedLessThan),
-            7 => Some(IntCC::UnsignedGreaterThanOrEqual),
-            8 => Some(IntCC::UnsignedGreaterThan),
-            9 => Some(IntCC::UnsignedLessThanOrEqual),
-            _ => None,
-        }
-    }
+    /// Every condition, in the order of the codes.
+    pub const ALL: [IntCC; 10] = [
+        IntCC::Equal,
+        IntCC::NotEqual,
+        IntCC::SignedLessThan,
+        IntCC::SignedGreaterThanOrEqual,
+        IntCC::SignedGreaterThan,
+        IntCC::SignedLessThanOrEqual,
+        IntCC::UnsignedLessThan,
+        IntCC::UnsignedGreaterThanOrEqual,
+        IntCC::UnsignedGreaterThan,
+        IntCC::UnsignedLessThanOrEqual,
+    ];
 
     /// The condition's name in the IR.
     pub fn name(self) -> &'static str
@@ -86,5 +70,34 @@ impl IntCC {
             | IntCC::UnsignedGreaterThanOrEqual
             | IntCC::UnsignedGreaterThan => None,
         }
+    }
+}
+
+/// The number by which a caller knows the condition.
+impl From<IntCC> for u8 {
+    ghost from_gives = { λ c code. code ≡ intcc_code c };
+
+    fn from(cond: IntCC) -> u8 {
+        cond as u8
+    }
+}
+
+/// The condition of a code; no other code is known.
+impl TryFrom<u8> for IntCC {
+    type Error = Cause;
+
+    ghost try_from_gives = { λ code r. r ≡ known (intcc_at code) };
+
+    fn try_from(code: u8) -> Result<IntCC, Cause> {
+        coded(&IntCC::ALL, code)
+    }
+}
+
+/// Its name.
+impl fmt::Display for IntCC {
+    ghost output = { λ c. Some (intcc_name c) };
+
+    fn fmt<W: fmt::Write>(&self, f: &mut fmt::Formatter<W>) -> fmt::Result {
+        f.write_str(self.name())
     }
 }

@@ -7,7 +7,7 @@ use crate::opcodes::Opcode;
 use crate::types::Type;
 
 /// What an opcode asks of the count and the widths of its operands and of its result.
-#[derive(Clone, Copy)]
+#[derive(Clone, Copy, PartialEq, Eq, Debug)]
 pub enum OpcodeConstraints {
     /// no operand, an immediate, an integer result
     Constant,
@@ -50,7 +50,7 @@ impl Opcode {
 fn is_integer(bits: u8) -> bool
     ensures { result ≡ is_integer bits }
 {
-    bits == 8 || bits == 16 || bits == 32 || bits == 64
+    matches!(bits, 8 | 16 | 32 | 64)
 }
 
 /// Whether the number is an immediate of `Iconst` at this type.
@@ -58,11 +58,11 @@ fn is_immediate(ty: Type, imm: i64) -> bool
     ensures { result ≡ is_immediate (type_bits ty) imm }
 {
     match ty {
-        Type::Invalid => 0 <= imm && imm < 1,
-        Type::Other => 0 <= imm && imm < 2,
-        Type::I8 => 0 <= imm && imm < 256,
-        Type::I16 => 0 <= imm && imm < 65_536,
-        Type::I32 => 0 <= imm && imm < 4_294_967_296,
+        Type::Invalid => (0..1).contains(&imm),
+        Type::Other => (0..2).contains(&imm),
+        Type::I8 => (0..256).contains(&imm),
+        Type::I16 => (0..65_536).contains(&imm),
+        Type::I32 => (0..4_294_967_296).contains(&imm),
         Type::I64 => true,
     }
 }
@@ -86,16 +86,18 @@ impl OpcodeConstraints {
     pub fn result_count_fits(self, count: usize) -> bool
         ensures { result ≡ result_count_fits self count }
     {
-        match self {
-            OpcodeConstraints::Opaque => count <= 2,
-            _ => count == 1,
+        if self == OpcodeConstraints::Opaque {
+            count <= 2
+        } else {
+            count == 1
         }
     }
 
-    /// Whether a result of the width `w` goes with operands of the widths `a`, `b` and `c`, 0 where there is none.
-    pub fn widths_fit(self, w: u8, a: u8, b: u8, c: u8) -> bool
-        ensures { result ≡ widths_fit self w a b c }
+    /// Whether a result of the width `w` goes with operands of these widths, 0 where there is none.
+    pub fn widths_fit(self, w: u8, args: (u8, u8, u8)) -> bool
+        ensures { result ≡ widths_fit self w args.0 args.1 args.2 }
     {
+        let (a, b, c) = args;
         match self {
             OpcodeConstraints::Constant => is_integer(w),
             OpcodeConstraints::Unary => is_integer(w) && a == w,
@@ -112,16 +114,12 @@ impl OpcodeConstraints {
     pub fn immediate_fits(self, ty: Type, imm: i64) -> bool
         ensures { result ≡ immediate_fits self (type_bits ty) imm }
     {
-        match self {
-            OpcodeConstraints::Constant => is_immediate(ty, imm),
-            _ => true,
-        }
+        self != OpcodeConstraints::Constant || is_immediate(ty, imm)
     }
 }
 
 /// The tests of widths decide the relation between an operation's widths that its meaning rests on.
-pub fn constraints_stand() -> u8
+pub fn constraints_stand()
     ensures { WidthsDecided }
 {
-    0
 }

@@ -1,10 +1,15 @@
-ghost use Rattle.std.specs.Prelude.{◌≡◌};
-ghost use Rattle.ir.specs.Entities.{arg_count, operands_of};
+ghost use Rattle.std.specs.Prelude.{◌≡◌, Some, ok_or};
+ghost use Rattle.std.specs.Iterator.{YieldsFirstBy, YieldsLastBy, item_count};
+ghost use Rattle.ir.specs.Entities.{arg_count, operands_of, values};
+ghost use Rattle.ir.specs.declared.refusal.Cause.TheVariants.{WrongCount};
+ghost use Rattle.ir.specs.Printed.{operands_text};
 
 use crate::entities::Value;
+use crate::refusal::Cause;
+use std::fmt;
 
 /// The operands of an instruction, in order.
-#[derive(Clone, Copy)]
+#[derive(Clone, Copy, PartialEq, Eq, Debug)]
 pub enum Operands {
     Nullary,
     Unary(Value),
@@ -25,16 +30,94 @@ impl Operands {
         }
     }
 
-    /// The operands in a list, or none where there are more than three.
-    pub fn from_slice(args: &[Value]) -> Option<Operands>
-        ensures { result ≡ operands_of args.now }
+    /// The operands one by one, from either end.
+    pub fn iter(self) -> Args
+        ensures { result.rest ≡ self }
     {
+        Args { rest: self }
+    }
+}
+
+/// The operands in a list; there are no more than three.
+impl TryFrom<&[Value]> for Operands {
+    type Error = Cause;
+
+    ghost try_from_gives = { λ args r. r ≡ ok_or (operands_of args.now) WrongCount };
+
+    fn try_from(args: &[Value]) -> Result<Operands, Cause> {
         match args {
-            [] => Some(Operands::Nullary),
-            [a] => Some(Operands::Unary(*a)),
-            [a, b] => Some(Operands::Binary(*a, *b)),
-            [a, b, c] => Some(Operands::Ternary(*a, *b, *c)),
-            _ => None,
+            [] => Ok(Operands::Nullary),
+            [a] => Ok(Operands::Unary(*a)),
+            [a, b] => Ok(Operands::Binary(*a, *b)),
+            [a, b, c] => Ok(Operands::Ternary(*a, *b, *c)),
+            _ => Err(Cause::WrongCount),
         }
+    }
+}
+
+impl IntoIterator for Operands {
+    type Item = Value;
+
+    type IntoIter = Args;
+
+    ghost into_iter_gives = { λ args it. it.rest ≡ args };
+
+    fn into_iter(self) -> Args {
+        self.iter()
+    }
+}
+
+/// The operands with commas between them.
+impl fmt::Display for Operands {
+    ghost output = { λ args. Some (operands_text args) };
+
+    fn fmt<W: fmt::Write>(&self, f: &mut fmt::Formatter<W>) -> fmt::Result {
+        match *self {
+            Operands::Nullary => Ok(()),
+            Operands::Unary(a) => write!(f, "{a}"),
+            Operands::Binary(a, b) => write!(f, "{a}, {b}"),
+            Operands::Ternary(a, b, c) => write!(f, "{a}, {b}, {c}"),
+        }
+    }
+}
+
+/// Goes through operands, from either end.
+#[derive(Clone, Copy, Debug)]
+pub struct Args {
+    /// Those that are still to come.
+    rest: Operands,
+}
+
+impl Iterator for Args {
+    type Item = Value;
+
+    ghost next_gives = { YieldsFirstBy (λ v. v.0) (λ s. values s.rest) };
+
+    ghost remaining = { item_count (λ s. values s.rest) };
+
+    fn next(&mut self) -> Option<Value> {
+        let (first, rest) = match self.rest {
+            Operands::Nullary => return None,
+            Operands::Unary(a) => (a, Operands::Nullary),
+            Operands::Binary(a, b) => (a, Operands::Unary(b)),
+            Operands::Ternary(a, b, c) => (a, Operands::Binary(b, c)),
+        };
+        self.rest = rest;
+        Some(first)
+    }
+}
+
+impl DoubleEndedIterator for Args {
+    ghost next_back_gives = { YieldsLastBy (λ v. v.0) (λ s. values s.rest) };
+
+    fn next_back(&mut self) -> Option<Value> {
+        let (last, rest) = match self.rest {
+            Operands::Nullary => return None,
+            Operands::Unary(a) => (a, Operands::Nullary),
+            Operands::Binary(a, b) => (b, Operands::Unary(a)),
+            Operands::Ternary(a, b, c) => (c, Operands::Binary(a, b)),
+        };
+        self.rest = rest;
+        Some(last)
     }
 }

@@ -17,7 +17,7 @@ pub use codes::codes_stand;
 pub use condcodes::IntCC;
 pub use constraints::{OpcodeConstraints, constraints_stand};
 pub use entities::{Block, Inst, Value};
-pub use instructions::Operands;
+pub use instructions::{Args, Operands};
 pub use opcodes::Opcode;
 pub use refusal::{Cause, Refusal};
 pub use types::Type;

@@ -1,11 +1,13 @@
-ghost use Rattle.std.specs.Borrow.{Bor};
-ghost use Rattle.std.specs.Prelude.{◌≡◌, ◌<◌, MatchOption};
-ghost use Rattle.ir.specs.Codes.{opcode_code, opcode_name, opcode_word, opcode_at};
+ghost use Rattle.std.specs.Prelude.{◌≡◌, Some};
+ghost use Rattle.ir.specs.Codes.{opcode_code, opcode_name, opcode_word, opcode_at, known};
 
+use crate::codes::coded;
+use crate::refusal::Cause;
 use crate::words::Word;
+use std::fmt;
 
 /// The opcodes, in the order of their codes.
-#[derive(Clone, Copy)]
+#[derive(Clone, Copy, PartialEq, Eq, Debug)]
 pub enum Opcode {
     Iconst,
     Iadd,
@@ -37,54 +39,35 @@ pub enum Opcode {
 }
 
 impl Opcode {
-    /// The number by which a caller knows the opcode.
-    pub fn code(self) -> u8
-        ensures { result ≡ opcode_code self }
-    {
-        self as u8
-    }
-
-    /// The opcode of a code, or none for an unknown code.
-    pub fn from_code(code: u8) -> Option<Opcode>
-        ensures { result ≡ opcode_at code }
-    {
-        Opcode::coded(code)
-    }
-
-    /// The opcode that has the code, if there is one.
-    fn coded(code: u8) -> Option<Opcode>
-        ensures { MatchOption result (25 < code) (λ o. opcode_code o ≡ code) }
-    {
-        match code {
-            0 => Some(Opcode::Iconst),
-            1 => Some(Opcode::Iadd),
-            2 => Some(Opcode::Imul),
-            3 => Some(Opcode::Udiv),
-            4 => Some(Opcode::Sdiv),
-            5 => Some(Opcode::Urem),
-            6 => Some(Opcode::Srem),
-            7 => Some(Opcode::Band),
-            8 => Some(Opcode::Bor),
-            9 => Some(Opcode::Bxor),
-            10 => Some(Opcode::Bnot),
-            11 => Some(Opcode::Ishl),
-            12 => Some(Opcode::Sshr),
-            13 => Some(Opcode::Ushr),
-            14 => Some(Opcode::Select),
-            15 => Some(Opcode::Uextend),
-            16 => Some(Opcode::Sextend),
-            17 => Some(Opcode::Icmp),
-            18 => Some(Opcode::Popcnt),
-            19 => Some(Opcode::Bitrev),
-            20 => Some(Opcode::Clz),
-            21 => Some(Opcode::Ctz),
-            22 => Some(Opcode::SaddSat),
-            23 => Some(Opcode::SsubSat),
-            24 => Some(Opcode::UsubSat),
-            25 => Some(Opcode::Opaque),
-            _ => None,
-        }
-    }
+    /// Every opcode, in the order of the codes.
+    pub const ALL: [Opcode; 26] = [
+        Opcode::Iconst,
+        Opcode::Iadd,
+        Opcode::Imul,
+        Opcode::Udiv,
+        Opcode::Sdiv,
+        Opcode::Urem,
+        Opcode::Srem,
+        Opcode::Band,
+        Opcode::Bor,
+        Opcode::Bxor,
+        Opcode::Bnot,
+        Opcode::Ishl,
+        Opcode::Sshr,
+        Opcode::Ushr,
+        Opcode::Select,
+        Opcode::Uextend,
+        Opcode::Sextend,
+        Opcode::Icmp,
+        Opcode::Popcnt,
+        Opcode::Bitrev,
+        Opcode::Clz,
+        Opcode::Ctz,
+        Opcode::SaddSat,
+        Opcode::SsubSat,
+        Opcode::UsubSat,
+        Opcode::Opaque,
+    ];
 
     /// The opcode's name in the IR.
     pub fn name(self) -> &'static str
@@ -150,5 +133,34 @@ impl Opcode {
             Opcode::UsubSat => Some(Word::UsubSat),
             Opcode::Iconst | Opcode::Icmp | Opcode::Opaque => None,
         }
+    }
+}
+
+/// The number by which a caller knows the opcode.
+impl From<Opcode> for u8 {
+    ghost from_gives = { λ o code. code ≡ opcode_code o };
+
+    fn from(opcode: Opcode) -> u8 {
+        opcode as u8
+    }
+}
+
+/// The opcode of a code; no other code is known.
+impl TryFrom<u8> for Opcode {
+    type Error = Cause;
+
+    ghost try_from_gives = { λ code r. r ≡ known (opcode_at code) };
+
+    fn try_from(code: u8) -> Result<Opcode, Cause> {
+        coded(&Opcode::ALL, code)
+    }
+}
+
+/// Its name.
+impl fmt::Display for Opcode {
+    ghost output = { λ o. Some (opcode_name o) };
+
+    fn fmt<W: fmt::Write>(&self, f: &mut fmt::Formatter<W>) -> fmt::Result {
+        f.write_str(self.name())
     }
 }

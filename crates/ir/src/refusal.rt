@@ -1,8 +1,13 @@
-ghost use Rattle.std.specs.Prelude.{◌≡◌};
+ghost use Rattle.std.specs.Prelude.{◌≡◌, Some};
 ghost use Rattle.ir.specs.Codes.{cause_number, cause_meaning};
+ghost use Rattle.ir.specs.Printed.{refusal_text};
+ghost use Rattle.ir.specs.Refusals.{because};
+
+use std::error::Error;
+use std::fmt;
 
 /// Why a call is refused, in the order of the numbers.
-#[derive(Clone, Copy)]
+#[derive(Clone, Copy, PartialEq, Eq, Debug)]
 pub enum Cause {
     /// Nothing live is there.
     NotLive = 1,
@@ -47,12 +52,29 @@ pub enum Cause {
 }
 
 impl Cause {
-    /// The number by which a caller knows the cause.
-    pub fn number(self) -> u8
-        ensures { result ≡ cause_number self }
-    {
-        self as u8
-    }
+    /// Every cause, in the order of the numbers.
+    pub const ALL: [Cause; 20] = [
+        Cause::NotLive,
+        Cause::Unknown,
+        Cause::WrongCount,
+        Cause::Widths,
+        Cause::Immediate,
+        Cause::TableFull,
+        Cause::Attached,
+        Cause::ResolvesToDestination,
+        Cause::Loop,
+        Cause::NotPinnable,
+        Cause::PinsFull,
+        Cause::NotRecords,
+        Cause::BrokenLayout,
+        Cause::TooShort,
+        Cause::NotInteger,
+        Cause::InputTooWide,
+        Cause::Trapped,
+        Cause::Undefined,
+        Cause::BadName,
+        Cause::WidthCheck,
+    ];
 
     /// The cause in words.
     pub fn meaning(self) -> &'static str
@@ -83,9 +105,50 @@ impl Cause {
     }
 }
 
+/// The number by which a caller knows the cause.
+impl From<Cause> for u8 {
+    ghost from_gives = { λ cause number. number ≡ cause_number cause };
+
+    fn from(cause: Cause) -> u8 {
+        cause as u8
+    }
+}
+
+/// The cause in words.
+impl fmt::Display for Cause {
+    ghost output = { λ cause. Some (cause_meaning cause) };
+
+    fn fmt<W: fmt::Write>(&self, f: &mut fmt::Formatter<W>) -> fmt::Result {
+        f.write_str(self.meaning())
+    }
+}
+
+impl Error for Cause {}
+
 /// Why a call was refused, and the place that this speaks of, 0 where it speaks of none.
-#[derive(Clone, Copy)]
+#[derive(Clone, Copy, PartialEq, Eq, Debug)]
 pub struct Refusal {
     pub cause: Cause,
     pub place: u32,
 }
+
+/// A refusal that speaks of no place.
+impl From<Cause> for Refusal {
+    ghost from_gives = { λ cause refusal. refusal ≡ because cause };
+
+    fn from(cause: Cause) -> Refusal {
+        Refusal { cause, place: 0 }
+    }
+}
+
+/// Its number, its place and what it means.
+impl fmt::Display for Refusal {
+    ghost output = { λ refusal. Some (refusal_text refusal) };
+
+    fn fmt<W: fmt::Write>(&self, f: &mut fmt::Formatter<W>) -> fmt::Result {
+        let number = u8::from(self.cause);
+        write!(f, "refused with {number} at {}: {}", self.place, self.cause)
+    }
+}
+
+impl Error for Refusal {}

@@ -1,6 +1,9 @@
-ghost use Rattle.std.specs.Prelude.{◌≡◌};
-ghost use Rattle.ir.specs.Codes.{type_bits, type_at, type_or};
+ghost use Rattle.std.specs.Prelude.{◌≡◌, Some};
+ghost use Rattle.ir.specs.Codes.{type_bits, type_at, type_or, type_name, known};
 ghost use Rattle.ir.specs.Widths.{is_integer};
+
+use crate::refusal::Cause;
+use std::fmt;
 
 /// The type of a value.
 #[derive(Clone, Copy, PartialEq, Eq, Debug)]
@@ -34,30 +37,54 @@ impl Type {
     pub fn is_int(self) -> bool
         ensures { result ≡ is_integer (type_bits self) }
     {
-        match self {
-            Type::Invalid | Type::Other => false,
-            Type::I8 | Type::I16 | Type::I32 | Type::I64 => true,
-        }
-    }
-
-    /// The type of a live value that has so many bits, or none where no live value has so many.
-    pub fn from_bits(bits: u16) -> Option<Type>
-        ensures { result ≡ type_at bits }
-    {
-        match bits {
-            1 => Some(Type::Other),
-            8 => Some(Type::I8),
-            16 => Some(Type::I16),
-            32 => Some(Type::I32),
-            64 => Some(Type::I64),
-            _ => None,
-        }
+        matches!(self, Type::I8 | Type::I16 | Type::I32 | Type::I64)
     }
 
     /// The type of a live value that has so many bits, the invalid one where no live value has so many.
     pub fn from_bits_or_invalid(bits: u16) -> Type
         ensures { result ≡ type_or bits }
     {
-        Type::from_bits(bits).unwrap_or(Type::Invalid)
+        Type::try_from(bits).unwrap_or(Type::Invalid)
+    }
+
+    /// Its name, as a script writes it.
+    pub fn name(self) -> &'static str
+        ensures { result.now ≡ type_name self }
+    {
+        match self {
+            Type::Invalid => "invalid",
+            Type::Other => "other",
+            Type::I8 => "i8",
+            Type::I16 => "i16",
+            Type::I32 => "i32",
+            Type::I64 => "i64",
+        }
+    }
+}
+
+/// The type of a live value that has so many bits; no live value has another number of them.
+impl TryFrom<u16> for Type {
+    type Error = Cause;
+
+    ghost try_from_gives = { λ bits r. r ≡ known (type_at bits) };
+
+    fn try_from(bits: u16) -> Result<Type, Cause> {
+        match bits {
+            1 => Ok(Type::Other),
+            8 => Ok(Type::I8),
+            16 => Ok(Type::I16),
+            32 => Ok(Type::I32),
+            64 => Ok(Type::I64),
+            _ => Err(Cause::Unknown),
+        }
+    }
+}
+
+/// Its name.
+impl fmt::Display for Type {
+    ghost output = { λ t. Some (type_name t) };
+
+    fn fmt<W: fmt::Write>(&self, f: &mut fmt::Formatter<W>) -> fmt::Result {
+        f.write_str(self.name())
     }
 }

@@ -1,8 +1,10 @@
-ghost use Rattle.std.specs.Prelude.{◌≡◌};
+ghost use Rattle.std.specs.Prelude.{◌≡◌, Some};
 ghost use Rattle.ir.specs.Codes.{word_text};
 
+use std::fmt;
+
 /// The words of Souper, the variable's first.
-#[derive(Clone, Copy)]
+#[derive(Clone, Copy, PartialEq, Eq, Debug)]
 pub enum Word {
     Var,
     Add,
@@ -71,5 +73,14 @@ impl Word {
             Word::SsubSat => "ssub.sat",
             Word::UsubSat => "usub.sat",
         }
+    }
+}
+
+/// As Souper spells it.
+impl fmt::Display for Word {
+    ghost output = { λ w. Some (word_text w) };
+
+    fn fmt<W: fmt::Write>(&self, f: &mut fmt::Formatter<W>) -> fmt::Result {
+        f.write_str(self.text())
     }
 }
