@@ -21,10 +21,7 @@ impl ValueDef {
     pub fn is_present(self) -> bool
         ensures { result ≡ present self }
     {
-        match self {
-            ValueDef::Constant(_) | ValueDef::Operation { .. } | ValueDef::Variable => true,
-            ValueDef::Deleted => false,
-        }
+        !matches!(self, ValueDef::Deleted)
     }
 }
 
@@ -32,10 +29,7 @@ impl ValueDef {
 fn definition<G: FlowGraph>(graph: &G, v: Value) -> ValueDef
     ensures { result ≡ def_of (G.meaning graph.now) v.0 }
 {
-    match graph.value_def(v) {
-        Ok(def) => def,
-        Err(_) => ValueDef::Deleted,
-    }
+    graph.value_def(v).unwrap_or(ValueDef::Deleted)
 }
 
 /// The operands of the operation that defines `v`, none where no operation does.
