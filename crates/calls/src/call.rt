@@ -1,7 +1,7 @@
 use ir::{Block, Inst, Value};
 
 /// An instruction to append to a block.
-#[derive(Drop)]
+#[derive(PartialEq, Eq, Debug, Drop)]
 pub struct NewInst {
     pub block: Block,
     /// The code of an opcode.
@@ -17,7 +17,7 @@ pub struct NewInst {
 }
 
 /// A building call.
-#[derive(Drop)]
+#[derive(PartialEq, Eq, Debug, Drop)]
 pub enum BuildCall {
     MakeBlock,
     /// A parameter for a block, of a type of so many bits.

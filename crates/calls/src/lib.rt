@@ -6,6 +6,7 @@
 
 pub mod answer;
 pub mod call;
+mod print;
 
 pub use answer::Answer;
 pub use call::{BuildCall, NewInst};
