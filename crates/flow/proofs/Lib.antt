@@ -1,6 +1,4 @@
 pub mod Among
-pub mod Laws
-pub mod Layouts
 pub mod Loops
 pub mod Orders
 pub mod Paths
