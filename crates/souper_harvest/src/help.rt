@@ -46,29 +46,6 @@ result and what defines that, or with a word that it has no single result. Last 
 names for a value, deleted values, and values that no instruction has as its single result.
 ";
 
-const CAUSES: [Cause; 20] = [
-    Cause::NotLive,
-    Cause::Unknown,
-    Cause::WrongCount,
-    Cause::Widths,
-    Cause::Immediate,
-    Cause::TableFull,
-    Cause::Attached,
-    Cause::ResolvesToDestination,
-    Cause::Loop,
-    Cause::NotPinnable,
-    Cause::PinsFull,
-    Cause::NotRecords,
-    Cause::BrokenLayout,
-    Cause::TooShort,
-    Cause::NotInteger,
-    Cause::InputTooWide,
-    Cause::Trapped,
-    Cause::Undefined,
-    Cause::BadName,
-    Cause::WidthCheck,
-];
-
 /// Tells how the program is used.
 pub(crate) fn print_help(rt: &impl Print) -> io::Result<()> {
     println!(rt; "{USAGE}\n")?;
@@ -84,11 +61,8 @@ pub(crate) fn print_help(rt: &impl Print) -> io::Result<()> {
 /// Lists the opcodes by their codes.
 fn print_opcodes(rt: &impl Print) -> io::Result<()> {
     println!(rt; "The opcodes, by their codes:\n")?;
-    for code in 0..u8::MAX {
-        if let Some(opcode) = Opcode::from_code(code) {
-            let name = opcode.name();
-            println!(rt; "    {code:>2}  {name}")?;
-        }
+    for opcode in Opcode::ALL {
+        println!(rt; "    {:>2}  {opcode}", u8::from(opcode))?;
     }
     println!(rt; "")
 }
@@ -96,10 +70,8 @@ fn print_opcodes(rt: &impl Print) -> io::Result<()> {
 /// Lists the refusals by their numbers.
 fn print_causes(rt: &impl Print) -> io::Result<()> {
     println!(rt; "The refusals, by their numbers:\n")?;
-    for cause in CAUSES {
-        let number = cause.number();
-        let meaning = cause.meaning();
-        println!(rt; "    {number:>2}  {meaning}")?;
+    for cause in Cause::ALL {
+        println!(rt; "    {:>2}  {cause}", u8::from(cause))?;
     }
     Ok(())
 }

@@ -127,15 +127,8 @@ pub(crate) fn marks(rt: &HostRuntime) -> anyhow::Result<()> {
 
 /// Prints how many marks are zero, and how many are not.
 fn print_marks(rt: &impl Print, marks: &[u8]) -> io::Result<()> {
-    let mut zero = 0usize;
-    let mut other = 0usize;
-    for mark in marks {
-        if *mark == 0 {
-            zero = zero.saturating_add(1);
-        } else {
-            other = other.saturating_add(1);
-        }
-    }
+    let zero = marks.iter().filter(|mark| **mark == 0).count();
+    let other = marks.iter().filter(|mark| **mark != 0).count();
     println!(rt; "marks zero {zero}, others {other}")
 }
 
@@ -143,7 +136,7 @@ fn print_marks(rt: &impl Print, marks: &[u8]) -> io::Result<()> {
 fn constant(heap: Global, imm: i64) -> Result<NewInst, AllocError> {
     Ok(NewInst {
         block: Block(0),
-        opcode: Opcode::Iconst.code(),
+        opcode: u8::from(Opcode::Iconst),
         cond: 0,
         imm,
         args: Vec::new(heap),
@@ -155,7 +148,7 @@ fn constant(heap: Global, imm: i64) -> Result<NewInst, AllocError> {
 fn opaque(heap: Global, results: usize) -> Result<NewInst, AllocError> {
     Ok(NewInst {
         block: Block(0),
-        opcode: Opcode::Opaque.code(),
+        opcode: u8::from(Opcode::Opaque),
         cond: 0,
         imm: 0,
         args: Vec::new(heap),

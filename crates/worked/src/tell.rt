@@ -1,47 +1,39 @@
 // A case: its name, and what its calls answer.
 use anyhow::anyhow;
 use calls::Answer;
-use flow::{FlowGraph, LaidOut};
+use flow::LaidOut;
 use ir::{Inst, Refusal, Value};
 use script::read_script;
-use show::Show;
 use std::io;
 
 /// Prints one answer: what was made, or the refusal's number and place.
 fn print_answer(rt: &impl Print, answer: &Result<Answer, Refusal>) -> io::Result<()> {
     match answer {
-        Ok(answer) => print!(rt; " {}", Show(*answer)),
+        Ok(answer) => print!(rt; " {answer}"),
         Err(refusal) => print_refusal(rt, *refusal),
     }
 }
 
 /// Prints a refusal's number and place.
 pub(crate) fn print_refusal(rt: &impl Print, refusal: Refusal) -> io::Result<()> {
-    let number = refusal.cause.number();
-    let place = refusal.place;
-    print!(rt; " {number}@{place}")
+    let Refusal { cause, place } = refusal;
+    print!(rt; " {}@{place}", u8::from(cause))
 }
 
 /// The type number and the original of each value, and the single result of each instruction.
 fn print_graph<G: LaidOut>(rt: &impl Print, graph: &G) -> io::Result<()> {
     print!(rt; " |")?;
-    for number in 0..graph.num_values() {
-        let bits = graph.value_type(Value(number)).bits();
-        match graph.resolve_aliases(Value(number)) {
-            Ok(original) => {
-                let original = original.0;
-                print!(rt; " {bits}:v{original}")?;
-            }
+    for value in (0..graph.num_values()).map(Value) {
+        let bits = graph.value_type(value).bits();
+        match graph.resolve_aliases(value) {
+            Ok(original) => print!(rt; " {bits}:{original}")?,
             Err(_) => print!(rt; " missing")?,
         }
     }
     print!(rt; " |")?;
-    for number in 0..graph.num_insts() {
-        match graph.single_result(Inst(number)) {
-            Ok(Some(value)) => {
-                let value = value.0;
-                print!(rt; " v{value}")?;
-            }
+    for inst in (0..graph.num_insts()).map(Inst) {
+        match graph.single_result(inst) {
+            Ok(Some(value)) => print!(rt; " {value}")?,
             Ok(None) => print!(rt; " -")?,
             Err(_) => print!(rt; " missing")?,
         }
