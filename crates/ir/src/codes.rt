@@ -16,5 +16,4 @@ pub fn codes_stand()
     ensures conditions { IntCCCodes }
     ensures types { TypeBits }
     ensures causes { CauseNumbers }
-{
-}
+{}

@@ -121,5 +121,4 @@ impl OpcodeConstraints {
 /// The tests of widths decide the relation between an operation's widths that its meaning rests on.
 pub fn constraints_stand()
     ensures { WidthsDecided }
-{
-}
+{}
