@@ -1,8 +1,9 @@
 -- What one turn of the walk keeps. Assumes nothing.
 use Rattle.std.proofs.Common.{◌≡◌, ℕ, suc, ◌+◌, ◌<◌, ◌≤◌, true, false, cond, not, eqb, List, [], ◌∷◌, ◌++◌, length, get_or, set, replicate, sym, refl, ap, ◌∙◌, subst, ⊎_elim, append_assoc, append-nil, arith, length-append, length-set, get_or-set_other, get_or-set_same}
 use lib.ListN.{length-map, length-replicate}
+use Rattle.std.specs.Prelude.{reverse}
 use Rattle.std.specs.List.{AllByRecursion as All}
-use Rattle.std.proofs.lemmas.List.{get_or-replicate}
+use Rattle.std.proofs.lemmas.List.{get_or-replicate, reverse-append, length-reverse}
 use Rattle.std.proofs.ByRecursion.{All-append, All-map}
 use Rattle.std.proofs.lemmas.Bool.{both_ways, cases_Bool, cases_eq, cond-true, cond-false, eq-eqb, ne_eqb}
 use Rattle.flow.specs.Meaning.{Flow, Lawful, uses, live, has}
@@ -14,6 +15,7 @@ use Rattle.flow.proofs.Walks.{walk_met, walk_new, walk_adds, walk_grows, walk_is
 use Rattle.walk.specs.declared.stack.StackEntry.{StackEntry}
 use Rattle.walk.specs.declared.stack.StackEntry.TheVariants.{Visit, Trace}
 use Rattle.ir.specs.Entities.{value}
+use Rattle.ir.specs.declared.entities.Value.{Value}
 use Rattle.walk.specs.Stacked.{traced}
 use Rattle.walk.specs.Outcome.{Completed, Stopped}
 
@@ -43,9 +45,9 @@ owed g [] = 0
 owed g (Visit v ∷ st) = length (uses g v.0) + owed g st
 owed g (Trace v ∷ st) = owed g st
 
--- The marks are at the values shown.
+-- The values shown are marked.
 abbrev pub Marked : List ℕ → List ℕ → Type 0
-Marked marks shown = (v : ℕ) → v < length marks → get_or marks v 0 ≡ cond (has shown v) 1 0
+Marked marks shown = (v : ℕ) → v < 1024 → not (eqb (get_or marks v 0) 0) ≡ has shown v
 
 both : (st : List StackEntry) → traces st + visits st ≡ length st
 both [] = refl
@@ -64,34 +66,22 @@ owed_traces : (g : Flow) (vs : List ℕ) (st : List StackEntry) → owed g (trac
 owed_traces g [] st = refl
 owed_traces g (v ∷ vs) st = owed_traces g vs st
 
--- what `is_marked` tells of a byte
-pub unmarked : (n : ℕ) → false ≡ not (eqb n 0) → n ≡ 0
-unmarked n e = ⊎_elim (λ z. z) (λ ne. absurd (both_ways _ (sym e) (ap not (ne_eqb n 0 ne)))) (cases_eq n 0)
-
-pub marked : (n : ℕ) → true ≡ not (eqb n 0) → n ≡ 0 → ⊥
-marked n e z = both_ways _ (ap not (eq-eqb n 0 z)) (sym e)
-
-one≢0 : ◌≡◌ {A = ℕ} 1 0 → ⊥
-one≢0 e = omega arith
-
+-- What one turn of the walk finds, the top of the stack first.
 pub record Turn (g : Flow) (root : ℕ) (marks : List ℕ) (st : List StackEntry) (steps : ℕ) (Fits : List ℕ → Type 0) : Type 0 where
+  pub lawful : Lawful g
+  pub alive : live g root ≡ true
   pub shown : List ℕ
   pub comes : run g st shown ≡ walk g root
   pub counted : steps + traces st ≡ 1 + (length shown + operand_count g shown) + owed g st
+  pub room : length marks ≡ 1024
   pub marked : Marked marks shown
   pub waiting : All (λ e. live g (value_of e) ≡ true) st
   pub fits : Fits shown
 
-pub with_stack : {g : Flow} {root : ℕ} {marks : List ℕ} {steps : ℕ} {Fits : List ℕ → Type 0} {st after : List StackEntry} → after ≡ st → Turn g root marks st steps Fits → Turn g root marks after steps Fits
-with_stack {g} {root} {marks} {steps} {Fits} is t = subst (λ l. Turn g root marks l steps Fits) (sym is) t
-
-pub with_marks : {g : Flow} {root : ℕ} {marks after : List ℕ} {steps : ℕ} {Fits : List ℕ → Type 0} {st : List StackEntry} → after ≡ marks → Turn g root marks st steps Fits → Turn g root after st steps Fits
-with_marks {g} {root} {steps = steps} {Fits = Fits} {st = st} is t = subst (λ m. Turn g root m st steps Fits) (sym is) t
-
--- The turn, with what was popped on top of the rest.
-pub on_top : {g : Flow} {root : ℕ} {marks : List ℕ} {steps : ℕ} {Fits : List ℕ → Type 0} {st rest : List StackEntry} {entry e : StackEntry} → st ≡ entry ∷ rest → entry ≡ e → Turn g root marks st steps Fits → Turn g root marks (e ∷ rest) steps Fits
-on_top {g} {root} {marks} {steps} {Fits} {rest = rest} is top t =
-    subst (λ l. Turn g root marks l steps Fits) (is ∙ ap (λ x. x ∷ rest) top) t
+-- The same with the entries as a stack has them, the top last. Each of them is a step to come.
+pub record Walking (g : Flow) (root : ℕ) (marks : List ℕ) (items : List StackEntry) (steps : ℕ) (Fits : List ℕ → Type 0) : Type 0 where
+  pub turn : Turn g root marks (reverse items) steps Fits
+  pub few : steps + length items ≤ 4097
 
 module _ (g : Flow) (lawful : Lawful g) where
   run_adds : (st : List StackEntry) (shown : List ℕ) → (more : List ℕ) × (run g st shown ≡ shown ++ more)
@@ -110,92 +100,138 @@ module _ (g : Flow) (lawful : Lawful g) where
       omega (arith, run_grows st (shown ++ (v.0 ∷ [])), length-append shown (v.0 ∷ []), operand_count_append g shown (v.0 ∷ []))
   run_grows (Trace v ∷ st) shown = omega (arith, run_grows st (walk_from g v.0 shown), walk_grows g lawful v.0 shown)
 
-  pub exists : (v : ℕ) → live g v ≡ true → v < 1024
+  exists : (v : ℕ) → live g v ≡ true → v < 1024
   exists v alive = omega (arith, live_exists g v alive, lawful.few)
 
-  pub first_turn : (root : ℕ) (n : ℕ) (Fits : List ℕ → Type 0) → live g root ≡ true → Fits [] → Turn g root (replicate n 0) (Trace (value root) ∷ []) 0 Fits
+  first_turn : (root : ℕ) (Fits : List ℕ → Type 0) → live g root ≡ true → Fits [] → Turn g root (replicate 1024 0) (Trace (value root) ∷ []) 0 Fits
   unfolding walk
-  first_turn root n Fits alive start = record {
+  first_turn root Fits alive start = record {
+    lawful = lawful;
+    alive = alive;
     shown = [];
     comes = refl;
     counted = refl;
-    marked = λ v lt. get_or-replicate n v 0 0 (omega (arith, length-replicate {A = ℕ} n 0));
+    room = length-replicate {A = ℕ} 1024 0;
+    marked = λ v lt. ap (λ n. not (eqb n 0)) (get_or-replicate 1024 v 0 0 lt);
     waiting = (alive, tt);
     fits = start;
   }
 
-  module _ {root : ℕ} {marks : List ℕ} {steps : ℕ} {Fits : List ℕ → Type 0} where
-    -- The entries on the stack are steps to come.
-    pub to_come : {st : List StackEntry} → Turn g root marks st steps Fits → steps + length st ≤ step_count g root
-    to_come {st} t =
-        omega (arith, t.counted, both st, run_grows st t.shown, ap length t.comes, ap (operand_count g) t.comes)
+module _ {g : Flow} {root : ℕ} {marks : List ℕ} {steps : ℕ} {Fits : List ℕ → Type 0} where
+  to_come : {st : List StackEntry} → Turn g root marks st steps Fits → steps + length st ≤ step_count g root
+  to_come {st} t =
+      omega (arith, t.counted, both st, run_grows g t.lawful st t.shown, ap length t.comes, ap (operand_count g) t.comes)
 
-    -- There was room for the visit of v and for the operands above it.
-    pub new_room : (us : List ℕ) (v : ℕ) (st : List StackEntry) → live g root ≡ true → Turn g root marks (traced us ++ (Visit (value v) ∷ st)) steps Fits → length st + length us < 4097
-    new_room us v st alive t =
-        omega (arith, to_come t, steps_few g lawful root alive, length-append (traced us) (Visit (value v) ∷ st), length-map us (λ v. Trace (value v)))
+  walking : {items : List StackEntry} → Turn g root marks (reverse items) steps Fits → Walking g root marks items steps Fits
+  walking {items} t = record { turn = t; few = omega (arith, to_come t, steps_few g t.lawful root t.alive, length-reverse items) }
 
-    pub done : live g root ≡ true → Turn g root marks [] steps Fits → Completed g root Fits steps
-    done alive t = record {
-      alive = alive;
-      counted = omega (arith, t.counted, ap length t.comes, ap (operand_count g) t.comes);
-      shown = subst Fits t.comes t.fits;
-      order = walk_is_post_order g lawful root;
+  -- What is on top is taken.
+  popped : {items : List StackEntry} (rest : List StackEntry) {entry e : StackEntry} → items ≡ rest ++ (entry ∷ []) → entry ≡ e → Walking g root marks items steps Fits → Turn g root marks (e ∷ reverse rest) steps Fits
+  popped rest {entry} is top w =
+      subst (λ l. Turn g root marks l steps Fits) (ap reverse is ∙ reverse-append rest (entry ∷ []) ∙ ap (λ e. e ∷ reverse rest) top) w.turn
+
+  completed : Turn g root marks [] steps Fits → Completed g root Fits steps
+  completed t = record {
+    alive = t.alive;
+    counted = omega (arith, t.counted, ap length t.comes, ap (operand_count g) t.comes);
+    shown = subst Fits t.comes t.fits;
+    order = walk_is_post_order g t.lawful root;
+  }
+
+  module _ (v : ℕ) (st : List StackEntry) where
+    visit_turn : (Fits' : List ℕ → Type 0) → Turn g root marks (Visit (value v) ∷ st) steps Fits → ((shown : List ℕ) → Fits shown → Fits' (shown ++ (v ∷ []))) → Turn g root (set marks v 1) st (steps + 1) Fits'
+    visit_turn Fits' t next = record {
+      lawful = t.lawful;
+      alive = t.alive;
+      shown = t.shown ++ (v ∷ []);
+      comes = t.comes;
+      counted = omega (arith, t.counted, length-append t.shown (v ∷ []), operand_count_append g t.shown (v ∷ []));
+      room = length-set marks v 1 ∙ t.room;
+      marked = λ w lt. ⊎_elim (at w lt) (beside w lt) (cases_eq w v);
+      waiting = t.waiting.1;
+      fits = next _ t.fits;
+    }
+      where
+        at : (w : ℕ) → w < 1024 → w ≡ v → not (eqb (get_or (set marks v 1) w 0) 0) ≡ has (t.shown ++ (v ∷ [])) w
+        at w lt e =
+            subst (λ x. not (eqb (get_or (set marks v 1) x 0) 0) ≡ has (t.shown ++ (v ∷ [])) x) (sym e)
+            (ap (λ n. not (eqb n 0)) (get_or-set_same marks v 1 0 (omega (arith, t.room))) ∙ sym (has_push t.shown v))
+
+        beside : (w : ℕ) → w < 1024 → (w ≡ v → ⊥) → not (eqb (get_or (set marks v 1) w 0) 0) ≡ has (t.shown ++ (v ∷ [])) w
+        beside w lt ne =
+            ap (λ n. not (eqb n 0)) (get_or-set_other marks v w 1 0 ne) ∙ t.marked w lt
+            ∙ sym (has_push_other t.shown v w (λ e. ne (sym e)))
+
+    stop_turn : (Stops : List ℕ → Type 0) → Turn g root marks (Visit (value v) ∷ st) steps Fits → ((shown : List ℕ) → Fits shown → Stops (shown ++ (v ∷ []))) → Stopped g root Stops
+    stop_turn Stops t next =
+        let r = run_adds g t.lawful st (t.shown ++ (v ∷ [])) in
+        record {
+          alive = t.alive;
+          front = t.shown ++ (v ∷ []);
+          rest = r.0;
+          parts = sym t.comes ∙ r.1;
+          stops = next _ t.fits;
+          order = walk_is_post_order g t.lawful root;
+        }
+
+    met_turn : Turn g root marks (Trace (value v) ∷ st) steps Fits → true ≡ not (eqb (get_or marks v 0) 0) → Turn g root marks st (steps + 1) Fits
+    met_turn t is = record {
+      lawful = t.lawful;
+      alive = t.alive;
+      shown = t.shown;
+      comes = ap (run g st) (sym (walk_met g t.lawful v t.shown (sym (t.marked v (exists g t.lawful v t.waiting.0)) ∙ sym is))) ∙ t.comes;
+      counted = omega (arith, t.counted);
+      room = t.room;
+      marked = t.marked;
+      waiting = t.waiting.1;
+      fits = t.fits;
     }
 
-    module _ (v : ℕ) (st : List StackEntry) where
-      pub visit_turn : (Fits' : List ℕ → Type 0) → Turn g root marks (Visit (value v) ∷ st) steps Fits → ((shown : List ℕ) → Fits shown → Fits' (shown ++ (v ∷ []))) → Turn g root (set marks v 1) st (steps + 1) Fits'
-      visit_turn Fits' t next = record {
-        shown = t.shown ++ (v ∷ []);
-        comes = t.comes;
-        counted = omega (arith, t.counted, length-append t.shown (v ∷ []), operand_count_append g t.shown (v ∷ []));
-        marked = λ w lt. ⊎_elim (at w lt) (beside w lt) (cases_eq w v);
-        waiting = t.waiting.1;
-        fits = next _ t.fits;
-      }
-        where
-          at : (w : ℕ) → w < length (set marks v 1) → w ≡ v → get_or (set marks v 1) w 0 ≡ cond (has (t.shown ++ (v ∷ [])) w) 1 0
-          at w lt e =
-              subst (λ x. get_or (set marks v 1) x 0 ≡ cond (has (t.shown ++ (v ∷ [])) x) 1 0) (sym e)
-              (get_or-set_same marks v 1 0 (omega (arith, length-set marks v 1)) ∙ sym (cond-true _ 1 0 (has_push t.shown v)))
+    new_turn : Turn g root marks (Trace (value v) ∷ st) steps Fits → false ≡ not (eqb (get_or marks v 0) 0) → Turn g root marks (traced (uses g v) ++ (Visit (value v) ∷ st)) (steps + 1) Fits
+    new_turn t is = record {
+      lawful = t.lawful;
+      alive = t.alive;
+      shown = t.shown;
+      comes = run_traces g (uses g v) (Visit (value v) ∷ st) t.shown ∙ ap (run g st) (sym (walk_new g t.lawful v t.shown (sym (t.marked v (exists g t.lawful v t.waiting.0)) ∙ sym is))) ∙ t.comes;
+      counted = omega (arith, t.counted, traces_traces (uses g v) (Visit (value v) ∷ st), owed_traces g (uses g v) (Visit (value v) ∷ st));
+      room = t.room;
+      marked = t.marked;
+      waiting = All-append (λ e. live g (value_of e) ≡ true) (traced (uses g v)) (Visit (value v) ∷ st) (All-map (λ e. live g (value_of e) ≡ true) (λ w. Trace (value w)) (uses g v) (all_among (λ w. live g w ≡ true) (uses g v) (λ w h. t.lawful.operands_live v w h))) t.waiting;
+      fits = t.fits;
+    }
 
-          beside : (w : ℕ) → w < length (set marks v 1) → (w ≡ v → ⊥) → get_or (set marks v 1) w 0 ≡ cond (has (t.shown ++ (v ∷ [])) w) 1 0
-          beside w lt ne =
-              get_or-set_other marks v w 1 0 ne ∙ t.marked w (omega (arith, length-set marks v 1))
-              ∙ ap (λ b. cond b 1 0) (sym (has_push_other t.shown v w (λ e. ne (sym e))))
+-- ---- the turns of the loop, each from what its steps answer
 
-      pub stop_turn : (Stops : List ℕ → Type 0) → live g root ≡ true → Turn g root marks (Visit (value v) ∷ st) steps Fits → ((shown : List ℕ) → Fits shown → Stops (shown ++ (v ∷ []))) → Stopped g root Stops
-      stop_turn Stops alive t next =
-          let r = run_adds st (t.shown ++ (v ∷ [])) in
-          record {
-            alive = alive;
-            front = t.shown ++ (v ∷ []);
-            rest = r.0;
-            parts = sym t.comes ∙ r.1;
-            stops = next _ t.fits;
-            order = walk_is_post_order g lawful root;
-          }
+pub first : {g : Flow} {root : ℕ} {marks : List ℕ} {none items : List StackEntry} {Fits : List ℕ → Type 0} → Lawful g → live g root ≡ true → marks ≡ replicate 1024 0
+    → none ≡ [] → items ≡ none ++ (Trace (value root) ∷ []) → Fits [] → Walking g root marks items 0 Fits
+first {g} {root} {Fits = Fits} lawful alive clear empty is start =
+    walking (rw (clear, is, empty) (first_turn g lawful root Fits alive start))
 
-      pub met_turn : Turn g root marks (Trace (value v) ∷ st) steps Fits → v < length marks → (get_or marks v 0 ≡ 0 → ⊥) → Turn g root marks st (steps + 1) Fits
-      met_turn t lt set' =
-          let met : has t.shown v ≡ true = ⊎_elim (λ e. e) (λ e. absurd (set' (t.marked v lt ∙ cond-false _ 1 0 e))) (cases_Bool (has t.shown v)) in
-          record {
-            shown = t.shown;
-            comes = ap (run g st) (sym (walk_met g lawful v t.shown met)) ∙ t.comes;
-            counted = omega (arith, t.counted);
-            marked = t.marked;
-            waiting = t.waiting.1;
-            fits = t.fits;
-          }
+module _ {g : Flow} {root : ℕ} {marks : List ℕ} {items : List StackEntry} (rest : List StackEntry) {entry : StackEntry} {v : Value} {steps : ℕ} {Fits : List ℕ → Type 0} where
+  -- What is on the stack is a value.
+  pub waits : items ≡ rest ++ (entry ∷ []) → entry ≡ Visit v → Walking g root marks items steps Fits → v.0 < 1024
+  waits is top w = let t = popped rest is top w in exists g t.lawful v.0 t.waiting.0
 
-      pub new_turn : Turn g root marks (Trace (value v) ∷ st) steps Fits → v < length marks → get_or marks v 0 ≡ 0 → Turn g root marks (traced (uses g v) ++ (Visit (value v) ∷ st)) (steps + 1) Fits
-      new_turn t lt clear =
-          let new : has t.shown v ≡ false = ⊎_elim (λ e. absurd (one≢0 (sym (cond-true _ 1 0 e) ∙ sym (t.marked v lt) ∙ clear))) (λ e. e) (cases_Bool (has t.shown v)) in
-          record {
-            shown = t.shown;
-            comes = run_traces g (uses g v) (Visit (value v) ∷ st) t.shown ∙ ap (run g st) (sym (walk_new g lawful v t.shown new)) ∙ t.comes;
-            counted = omega (arith, t.counted, traces_traces (uses g v) (Visit (value v) ∷ st), owed_traces g (uses g v) (Visit (value v) ∷ st));
-            marked = t.marked;
-            waiting = All-append (λ e. live g (value_of e) ≡ true) (traced (uses g v)) (Visit (value v) ∷ st) (All-map (λ e. live g (value_of e) ≡ true) (λ w. Trace (value w)) (uses g v) (all_among (λ w. live g w ≡ true) (uses g v) (λ w h. lawful.operands_live v w h))) t.waiting;
-            fits = t.fits;
-          }
+  pub visited : {after : List ℕ} (Fits' : List ℕ → Type 0) → items ≡ rest ++ (entry ∷ []) → entry ≡ Visit v → Walking g root marks items steps Fits → after ≡ set marks v.0 1
+      → ((shown : List ℕ) → Fits shown → Fits' (shown ++ (v.0 ∷ []))) → Walking g root after rest (steps + 1) Fits'
+  visited Fits' is top w marked next = walking (rw marked (visit_turn v.0 (reverse rest) Fits' (popped rest is top w) next))
+
+  pub stopped : (Stops : List ℕ → Type 0) → items ≡ rest ++ (entry ∷ []) → entry ≡ Visit v → Walking g root marks items steps Fits
+      → ((shown : List ℕ) → Fits shown → Stops (shown ++ (v.0 ∷ []))) → Stopped g root Stops
+  stopped Stops is top w next = stop_turn v.0 (reverse rest) Stops (popped rest is top w) next
+
+  pub met : items ≡ rest ++ (entry ∷ []) → entry ≡ Trace v → Walking g root marks items steps Fits → true ≡ not (eqb (get_or marks v.0 0) 0) → Walking g root marks rest (steps + 1) Fits
+  met is top w marked = walking (met_turn v.0 (reverse rest) (popped rest is top w) marked)
+
+  pub new : {after : List StackEntry} → items ≡ rest ++ (entry ∷ []) → entry ≡ Trace v → Walking g root marks items steps Fits → false ≡ not (eqb (get_or marks v.0 0) 0)
+      → reverse after ≡ traced (uses g v.0) ++ (Visit v ∷ reverse rest) → Walking g root marks after (steps + 1) Fits
+  new is top w marked pushed = walking (subst (λ l. Turn g root marks l (steps + 1) Fits) (sym pushed) (new_turn v.0 (reverse rest) (popped rest is top w) marked))
+
+  -- There is room for the visit of a new value and for the operands above it.
+  pub room : items ≡ rest ++ (entry ∷ []) → entry ≡ Trace v → Walking g root marks items steps Fits → false ≡ not (eqb (get_or marks v.0 0) 0) → length rest + length (uses g v.0) < 4097
+  room is top w marked =
+      let t = new_turn v.0 (reverse rest) (popped rest is top w) marked in
+      omega (arith, to_come t, steps_few g t.lawful root t.alive, length-append (traced (uses g v.0)) (Visit v ∷ reverse rest), length-map (uses g v.0) (λ v. Trace (value v)), length-reverse rest)
+
+pub done : {g : Flow} {root : ℕ} {marks : List ℕ} {items : List StackEntry} {steps : ℕ} {Fits : List ℕ → Type 0} → items ≡ [] → Walking g root marks items steps Fits → Completed g root Fits steps
+done {g} {root} {marks} {steps = steps} {Fits} empty w = completed (subst (λ l. Turn g root marks (reverse l) steps Fits) empty w.turn)

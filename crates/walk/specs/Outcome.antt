@@ -21,6 +21,11 @@ pub record Stopped (g : Flow) (root : ℕ) (Stops : List ℕ → Type 0) : Type 
   pub stops : Stops front
   pub order : PostOrder g root (walk g root)
 
+-- What the walk of a live root answers: it was shown to the end, or the visitor stopped it.
+abbrev pub Ended : {S : Type 0} (g : Flow) (root : ℕ) (Fits : List ℕ → Type 0) (Stops : List ℕ → S → Type 0) → Result ℕ S → Type 0
+Ended g root Fits Stops (Ok steps) = Completed g root Fits steps
+Ended g root Fits Stops (Err s) = Stopped g root (λ shown. Stops shown s)
+
 -- What a walk answers, over room for so many marks: a refusal has one of two causes.
 abbrev pub Walked : {S : Type 0} (g : Flow) (root room : ℕ) (Fits : List ℕ → Type 0) (Stops : List ℕ → S → Type 0) → Result ℕ (WalkError S) → Type 0
 Walked g root room Fits Stops (Ok steps) = Completed g root Fits steps

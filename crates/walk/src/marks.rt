@@ -1,38 +1,50 @@
-ghost use Rattle.std.specs.Prelude.{◌≡◌, ◌<◌, not, length, replicate, ◌==◌, slice_index, slice_set};
+ghost use Rattle.std.specs.Prelude.{◌≡◌, ◌<◌, not, replicate, ◌==◌, slice_index, slice_set};
 
 use ir::Value;
 
-/// The marks of a walk, lent by the caller, which are all zero again when the walk lets them go.
-pub struct Marks<'a>(pub &'a mut [u8]);
+/// How many values a graph can have, and so how many marks a walk needs.
+pub const MARKS: usize = 1024;
 
-impl Drop for Marks<'_> {
-    fn drop(self)
-        ensures { self.exit.0.now ≡ replicate (length self.entry.0.now) 0 }
+/// The marks of a walk, by value number, in bytes that the caller lends: none at first, and none again when the walk lets
+/// them go.
+pub struct Marks<'a> {
+    bytes: &'a mut [u8; MARKS],
+}
+
+impl<'a> Marks<'a> {
+    /// No mark, whatever the bytes hold.
+    pub(crate) fn new(bytes: &'a mut [u8; MARKS]) -> Marks<'a>
+        ensures same_reference { result.bytes.ghost_name ≡ bytes.entry.ghost_name }
+        ensures none { result.bytes.now ≡ replicate MARKS 0 }
     {
-        clear(self.0);
-        let Marks(_) = self;
+        *bytes = [0; MARKS];
+        Marks { bytes }
+    }
+
+    /// Marks `v`.
+    pub(crate) fn mark(&mut self, v: Value)
+        requires { v.0 < MARKS }
+        ensures same_reference { self.new.bytes.ghost_name ≡ self.old.bytes.ghost_name }
+        ensures marked { self.new.bytes.now ≡ slice_set self.old.bytes.now v.0 1 }
+    {
+        self.bytes[v.0 as usize] = 1;
+    }
+
+    /// Whether `v` is marked.
+    pub(crate) fn is_marked(&self, v: Value) -> bool
+        requires { v.0 < MARKS }
+        ensures { result ≡ not (slice_index self.now.bytes.now v.0 == 0) }
+    {
+        let bytes = &*self.bytes;
+        bytes[v.0 as usize] != 0
     }
 }
 
-/// Sets each byte to zero.
-pub(crate) fn clear(bytes: &mut [u8])
-    ensures { bytes.new ≡ replicate (length bytes.old) 0 }
-{
-    bytes.fill(0);
-}
-
-/// Marks `v`.
-pub(crate) fn mark(marks: &mut [u8], v: Value)
-    requires { v.0 < length marks.old }
-    ensures { marks.new ≡ slice_set marks.old v.0 1 }
-{
-    marks[v.0 as usize] = 1;
-}
-
-/// Whether `v` is marked.
-pub(crate) fn is_marked(marks: &[u8], v: Value) -> bool
-    requires { v.0 < length marks.now }
-    ensures { result ≡ not (slice_index marks.now v.0 == 0) }
-{
-    marks[v.0 as usize] != 0
+impl Drop for Marks<'_> {
+    fn drop(self)
+        ensures { self.exit.0.now ≡ replicate MARKS 0 }
+    {
+        let Marks { bytes: marks } = self;
+        *marks = [0; MARKS];
+    }
 }

@@ -1,0 +1,80 @@
+ghost use Rattle.std.specs.Prelude.{◌≡◌, true};
+ghost use Rattle.flow.specs.Meaning.{live};
+
+use crate::marks::{MARKS, Marks};
+use crate::stack::{Stack, StackEntry};
+use crate::visitor::Visitor;
+use flow::{FlowGraph, value_args};
+use ir::{Operands, Value};
+
+/// A live value of a graph, from which a walk starts.
+#[derive(Drop)]
+pub struct LiveRoot<'a, G: FlowGraph> {
+    pub graph: &'a G,
+    pub value: Value,
+    ghost alive: { live (G.meaning graph.now) value.0 ≡ true },
+}
+
+impl<G: FlowGraph> LiveRoot<'_, G> {
+    ghost use Rattle.std.specs.Prelude.{◌+◌, ◌<◌, ◌∷◌, ◌++◌, length, replicate};
+    ghost use Rattle.arrayvec.specs.ArrayVec.{array_vec_len};
+    ghost use Rattle.flow.specs.Meaning.{uses};
+    ghost use Rattle.walk.specs.declared.stack.StackEntry.TheVariants.{Visit};
+    ghost use Rattle.walk.specs.Outcome.{Ended};
+    ghost use Rattle.walk.specs.Stacked.{entries, traced};
+
+    /// Pushes the visit of `v` and, on top of it, the operands of `v`, the first of them on top.
+    fn expand(&self, v: Value, stack: &mut Stack)
+        requires { array_vec_len stack.old + length (uses (G.meaning self.now.graph.now) v.0) < 4097 }
+        ensures { entries stack.new ≡ traced (uses (G.meaning self.now.graph.now) v.0) ++ (Visit v ∷ entries stack.old) }
+    {
+        stack.push(StackEntry::Visit(v));
+        match value_args(self.graph, v) {
+            Operands::Nullary => {}
+            Operands::Unary(a) => {
+                stack.push(StackEntry::Trace(a));
+            }
+            Operands::Binary(a, b) => {
+                stack.push(StackEntry::Trace(b));
+                stack.push(StackEntry::Trace(a));
+            }
+            Operands::Ternary(a, b, c) => {
+                stack.push(StackEntry::Trace(c));
+                stack.push(StackEntry::Trace(b));
+                stack.push(StackEntry::Trace(a));
+            }
+        }
+    }
+
+    /// Shows `visitor` what the root reaches, each value once and after what it uses, and answers the steps taken.
+    ///
+    /// The bytes lent are zero at the return, also where the visitor stopped the walk.
+    pub(crate) fn walk<V: Visitor>(
+        &self,
+        bytes: &mut [u8; MARKS],
+        visitor: &mut V,
+    ) -> Result<u32, V::Stop>
+        ensures ended { Ended (G.meaning self.now.graph.now) self.now.value.0 (λ shown. V.fits visitor.old shown visitor.new) (λ shown. V.stops visitor.old shown visitor.new) result }
+        ensures cleared { bytes.new ≡ replicate MARKS 0 }
+    {
+        let mut marks = Marks::new(bytes);
+        let mut stack = Stack::new();
+        stack.push(StackEntry::Trace(self.value));
+        let mut steps = 0;
+        while let Some(entry) = stack.pop() {
+            steps += 1;
+            match entry {
+                StackEntry::Visit(v) => {
+                    marks.mark(v);
+                    visitor.show(v)?;
+                }
+                StackEntry::Trace(v) => {
+                    if !marks.is_marked(v) {
+                        self.expand(v, &mut stack);
+                    }
+                }
+            }
+        }
+        Ok(steps)
+    }
+}
