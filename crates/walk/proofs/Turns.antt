@@ -1,11 +1,11 @@
 -- What one turn of the walk keeps. Assumes nothing.
-use Rattle.std.proofs.Common.{◌≡◌, ℕ, suc, ◌+◌, ◌<◌, ◌≤◌, true, false, cond, not, eqb, List, [], ◌∷◌, ◌++◌, length, get_or, set, replicate, sym, refl, ap, ◌∙◌, subst, ⊎_elim, append_assoc, append-nil, arith, length-append, length-set, get_or-set_other, get_or-set_same}
+use Rattle.std.proofs.Common.{◌≡◌, ℕ, suc, ◌+◌, ◌<◌, ◌≤◌, true, false, not, eqb, List, [], ◌∷◌, ◌++◌, length, get_or, set, replicate, sym, refl, ap, ◌∙◌, subst, ⊎_elim, append_assoc, append-nil, arith, length-append, length-set, get_or-set_other, get_or-set_same}
 use lib.ListN.{length-map, length-replicate}
 use Rattle.std.specs.Prelude.{reverse}
 use Rattle.std.specs.List.{AllByRecursion as All}
 use Rattle.std.proofs.lemmas.List.{get_or-replicate, reverse-append, length-reverse}
 use Rattle.std.proofs.ByRecursion.{All-append, All-map}
-use Rattle.std.proofs.lemmas.Bool.{both_ways, cases_Bool, cases_eq, cond-true, cond-false, eq-eqb, ne_eqb}
+use Rattle.std.proofs.lemmas.Bool.{cases_eq}
 use Rattle.flow.specs.Meaning.{Flow, Lawful, uses, live, has}
 use Rattle.flow.specs.Walk.{walks, walk_from, walk, operand_count, step_count}
 use Rattle.flow.proofs.Among.{all_among, has_push, has_push_other}
@@ -208,10 +208,6 @@ first {g} {root} {Fits = Fits} lawful alive clear empty is start =
     walking (rw (clear, is, empty) (first_turn g lawful root Fits alive start))
 
 module _ {g : Flow} {root : ℕ} {marks : List ℕ} {items : List StackEntry} (rest : List StackEntry) {entry : StackEntry} {v : Value} {steps : ℕ} {Fits : List ℕ → Type 0} where
-  -- What is on the stack is a value.
-  pub waits : items ≡ rest ++ (entry ∷ []) → entry ≡ Visit v → Walking g root marks items steps Fits → v.0 < 1024
-  waits is top w = let t = popped rest is top w in exists g t.lawful v.0 t.waiting.0
-
   pub visited : {after : List ℕ} (Fits' : List ℕ → Type 0) → items ≡ rest ++ (entry ∷ []) → entry ≡ Visit v → Walking g root marks items steps Fits → after ≡ set marks v.0 1
       → ((shown : List ℕ) → Fits shown → Fits' (shown ++ (v.0 ∷ []))) → Walking g root after rest (steps + 1) Fits'
   visited Fits' is top w marked next = walking (rw marked (visit_turn v.0 (reverse rest) Fits' (popped rest is top w) next))

@@ -4,13 +4,14 @@ ghost use Rattle.flow.specs.Meaning.{live};
 ghost use Rattle.walk.specs.Outcome.{Walked};
 ghost use Rattle.walk.specs.declared.dfs.WalkError.TheVariants.{Refused};
 
+use crate::marks::MARKS;
 use crate::root::LiveRoot;
 use crate::visitor::Visitor;
 use flow::{FlowGraph, is_live};
 use ir::{Cause, Refusal, Value};
 
 /// Why a walk was not completed: it was refused, or its visitor stopped it.
-#[derive(Drop)]
+#[derive(Clone, Copy, PartialEq, Eq, Debug, Drop)]
 pub enum WalkError<S> {
     Refused(Refusal),
     Stopped(S),
@@ -40,16 +41,12 @@ pub fn post_order_dfs<G: FlowGraph, V: Visitor>(
     ensures cleared { live (G.meaning graph.now) root.0 ≡ true → 1024 ≤ length marks.old → marks.new ≡ replicate 1024 0 ++ drop 1024 marks.old }
 {
     if !is_live(graph, root) {
-        return Err(Refusal {
-            cause: Cause::NotLive,
-            place: 0,
-        }
-        .into());
+        return Err(Refusal::from(Cause::NotLive).into());
     }
     let Some(bytes) = marks.first_chunk_mut() else {
         return Err(Refusal {
             cause: Cause::TooShort,
-            place: 1024,
+            place: MARKS as u32,
         }
         .into());
     };

@@ -15,7 +15,7 @@ impl<'a> Marks<'a> {
     /// No mark, whatever the bytes hold.
     pub(crate) fn new(bytes: &'a mut [u8; MARKS]) -> Marks<'a>
         ensures same_reference { result.bytes.ghost_name ≡ bytes.entry.ghost_name }
-        ensures none { result.bytes.now ≡ replicate MARKS 0 }
+        ensures none { result.bytes.now ≡ replicate 1024 0 }
     {
         *bytes = [0; MARKS];
         Marks { bytes }
@@ -23,7 +23,7 @@ impl<'a> Marks<'a> {
 
     /// Marks `v`.
     pub(crate) fn mark(&mut self, v: Value)
-        requires { v.0 < MARKS }
+        requires { v.0 < 1024 }
         ensures same_reference { self.new.bytes.ghost_name ≡ self.old.bytes.ghost_name }
         ensures marked { self.new.bytes.now ≡ slice_set self.old.bytes.now v.0 1 }
     {
@@ -32,7 +32,7 @@ impl<'a> Marks<'a> {
 
     /// Whether `v` is marked.
     pub(crate) fn is_marked(&self, v: Value) -> bool
-        requires { v.0 < MARKS }
+        requires { v.0 < 1024 }
         ensures { result ≡ not (slice_index self.now.bytes.now v.0 == 0) }
     {
         let bytes = &*self.bytes;
@@ -42,9 +42,9 @@ impl<'a> Marks<'a> {
 
 impl Drop for Marks<'_> {
     fn drop(self)
-        ensures { self.exit.0.now ≡ replicate MARKS 0 }
+        ensures { self.exit.0.now ≡ replicate 1024 0 }
     {
-        let Marks { bytes: marks } = self;
-        *marks = [0; MARKS];
+        *self.bytes = [0; MARKS];
+        let Marks { bytes: _ } = self;
     }
 }

@@ -5,7 +5,7 @@ use crate::marks::{MARKS, Marks};
 use crate::stack::{Stack, StackEntry};
 use crate::visitor::Visitor;
 use flow::{FlowGraph, value_args};
-use ir::{Operands, Value};
+use ir::Value;
 
 /// A live value of a graph, from which a walk starts.
 #[derive(Drop)]
@@ -29,20 +29,8 @@ impl<G: FlowGraph> LiveRoot<'_, G> {
         ensures { entries stack.new ≡ traced (uses (G.meaning self.now.graph.now) v.0) ++ (Visit v ∷ entries stack.old) }
     {
         stack.push(StackEntry::Visit(v));
-        match value_args(self.graph, v) {
-            Operands::Nullary => {}
-            Operands::Unary(a) => {
-                stack.push(StackEntry::Trace(a));
-            }
-            Operands::Binary(a, b) => {
-                stack.push(StackEntry::Trace(b));
-                stack.push(StackEntry::Trace(a));
-            }
-            Operands::Ternary(a, b, c) => {
-                stack.push(StackEntry::Trace(c));
-                stack.push(StackEntry::Trace(b));
-                stack.push(StackEntry::Trace(a));
-            }
+        for arg in value_args(self.graph, v).iter().rev() {
+            stack.push(StackEntry::Trace(arg));
         }
     }
 
@@ -55,7 +43,7 @@ impl<G: FlowGraph> LiveRoot<'_, G> {
         visitor: &mut V,
     ) -> Result<u32, V::Stop>
         ensures ended { Ended (G.meaning self.now.graph.now) self.now.value.0 (λ shown. V.fits visitor.old shown visitor.new) (λ shown. V.stops visitor.old shown visitor.new) result }
-        ensures cleared { bytes.new ≡ replicate MARKS 0 }
+        ensures cleared { bytes.new ≡ replicate 1024 0 }
     {
         let mut marks = Marks::new(bytes);
         let mut stack = Stack::new();
