@@ -1,5 +1,5 @@
 -- What one turn of the walk keeps. Assumes nothing.
-use Rattle.std.proofs.Common.{◌≡◌, ℕ, suc, ◌+◌, ◌<◌, ◌≤◌, true, false, not, eqb, List, [], ◌∷◌, ◌++◌, length, get_or, set, replicate, sym, refl, ap, ◌∙◌, subst, ⊎_elim, append_assoc, append-nil, arith, length-append, length-set, get_or-set_other, get_or-set_same}
+use Rattle.std.proofs.Common.{◌≡◌, ℕ, suc, ◌+◌, ◌<◌, ◌≤◌, true, false, not, eqb, List, [], ◌∷◌, ◌++◌, length, set, replicate, sym, refl, ap, ◌∙◌, subst, ⊎_elim, append_assoc, append-nil, arith, length-append, length-set, get_or-set_other, get_or-set_same}
 use lib.ListN.{length-map, length-replicate}
 use Rattle.std.specs.Prelude.{reverse}
 use Rattle.std.specs.List.{AllByRecursion as All}
@@ -16,6 +16,7 @@ use Rattle.walk.specs.declared.stack.StackEntry.{StackEntry}
 use Rattle.walk.specs.declared.stack.StackEntry.TheVariants.{Visit, Trace}
 use Rattle.ir.specs.Entities.{value}
 use Rattle.ir.specs.declared.entities.Value.{Value}
+use Rattle.walk.specs.Marks.{marked}
 use Rattle.walk.specs.Stacked.{traced}
 use Rattle.walk.specs.Outcome.{Completed, Stopped}
 
@@ -45,10 +46,6 @@ owed g [] = 0
 owed g (Visit v ∷ st) = length (uses g v.0) + owed g st
 owed g (Trace v ∷ st) = owed g st
 
--- The values shown are marked.
-abbrev pub Marked : List ℕ → List ℕ → Type 0
-Marked marks shown = (v : ℕ) → v < 1024 → not (eqb (get_or marks v 0) 0) ≡ has shown v
-
 both : (st : List StackEntry) → traces st + visits st ≡ length st
 both [] = refl
 both (Visit v ∷ st) = omega (arith, both st)
@@ -74,7 +71,8 @@ pub record Turn (g : Flow) (root : ℕ) (marks : List ℕ) (st : List StackEntry
   pub comes : run g st shown ≡ walk g root
   pub counted : steps + traces st ≡ 1 + (length shown + operand_count g shown) + owed g st
   pub room : length marks ≡ 1024
-  pub marked : Marked marks shown
+  -- the values shown are marked
+  pub met : (v : ℕ) → v < 1024 → marked marks v ≡ has shown v
   pub waiting : All (λ e. live g (value_of e) ≡ true) st
   pub fits : Fits shown
 
@@ -112,7 +110,7 @@ module _ (g : Flow) (lawful : Lawful g) where
     comes = refl;
     counted = refl;
     room = length-replicate {A = ℕ} 1024 0;
-    marked = λ v lt. ap (λ n. not (eqb n 0)) (get_or-replicate 1024 v 0 0 lt);
+    met = λ v lt. ap (λ n. not (eqb n 0)) (get_or-replicate 1024 v 0 0 lt);
     waiting = (alive, tt);
     fits = start;
   }
@@ -147,19 +145,19 @@ module _ {g : Flow} {root : ℕ} {marks : List ℕ} {steps : ℕ} {Fits : List �
       comes = t.comes;
       counted = omega (arith, t.counted, length-append t.shown (v ∷ []), operand_count_append g t.shown (v ∷ []));
       room = length-set marks v 1 ∙ t.room;
-      marked = λ w lt. ⊎_elim (at w lt) (beside w lt) (cases_eq w v);
+      met = λ w lt. ⊎_elim (at w lt) (beside w lt) (cases_eq w v);
       waiting = t.waiting.1;
       fits = next _ t.fits;
     }
       where
-        at : (w : ℕ) → w < 1024 → w ≡ v → not (eqb (get_or (set marks v 1) w 0) 0) ≡ has (t.shown ++ (v ∷ [])) w
+        at : (w : ℕ) → w < 1024 → w ≡ v → marked (set marks v 1) w ≡ has (t.shown ++ (v ∷ [])) w
         at w lt e =
-            subst (λ x. not (eqb (get_or (set marks v 1) x 0) 0) ≡ has (t.shown ++ (v ∷ [])) x) (sym e)
+            subst (λ x. marked (set marks v 1) x ≡ has (t.shown ++ (v ∷ [])) x) (sym e)
             (ap (λ n. not (eqb n 0)) (get_or-set_same marks v 1 0 (omega (arith, t.room))) ∙ sym (has_push t.shown v))
 
-        beside : (w : ℕ) → w < 1024 → (w ≡ v → ⊥) → not (eqb (get_or (set marks v 1) w 0) 0) ≡ has (t.shown ++ (v ∷ [])) w
+        beside : (w : ℕ) → w < 1024 → (w ≡ v → ⊥) → marked (set marks v 1) w ≡ has (t.shown ++ (v ∷ [])) w
         beside w lt ne =
-            ap (λ n. not (eqb n 0)) (get_or-set_other marks v w 1 0 ne) ∙ t.marked w lt
+            ap (λ n. not (eqb n 0)) (get_or-set_other marks v w 1 0 ne) ∙ t.met w lt
             ∙ sym (has_push_other t.shown v w (λ e. ne (sym e)))
 
     stop_turn : (Stops : List ℕ → Type 0) → Turn g root marks (Visit (value v) ∷ st) steps Fits → ((shown : List ℕ) → Fits shown → Stops (shown ++ (v ∷ []))) → Stopped g root Stops
@@ -174,28 +172,28 @@ module _ {g : Flow} {root : ℕ} {marks : List ℕ} {steps : ℕ} {Fits : List �
           order = walk_is_post_order g t.lawful root;
         }
 
-    met_turn : Turn g root marks (Trace (value v) ∷ st) steps Fits → true ≡ not (eqb (get_or marks v 0) 0) → Turn g root marks st (steps + 1) Fits
+    met_turn : Turn g root marks (Trace (value v) ∷ st) steps Fits → true ≡ marked marks v → Turn g root marks st (steps + 1) Fits
     met_turn t is = record {
       lawful = t.lawful;
       alive = t.alive;
       shown = t.shown;
-      comes = ap (run g st) (sym (walk_met g t.lawful v t.shown (sym (t.marked v (exists g t.lawful v t.waiting.0)) ∙ sym is))) ∙ t.comes;
+      comes = ap (run g st) (sym (walk_met g t.lawful v t.shown (sym (t.met v (exists g t.lawful v t.waiting.0)) ∙ sym is))) ∙ t.comes;
       counted = omega (arith, t.counted);
       room = t.room;
-      marked = t.marked;
+      met = t.met;
       waiting = t.waiting.1;
       fits = t.fits;
     }
 
-    new_turn : Turn g root marks (Trace (value v) ∷ st) steps Fits → false ≡ not (eqb (get_or marks v 0) 0) → Turn g root marks (traced (uses g v) ++ (Visit (value v) ∷ st)) (steps + 1) Fits
+    new_turn : Turn g root marks (Trace (value v) ∷ st) steps Fits → false ≡ marked marks v → Turn g root marks (traced (uses g v) ++ (Visit (value v) ∷ st)) (steps + 1) Fits
     new_turn t is = record {
       lawful = t.lawful;
       alive = t.alive;
       shown = t.shown;
-      comes = run_traces g (uses g v) (Visit (value v) ∷ st) t.shown ∙ ap (run g st) (sym (walk_new g t.lawful v t.shown (sym (t.marked v (exists g t.lawful v t.waiting.0)) ∙ sym is))) ∙ t.comes;
+      comes = run_traces g (uses g v) (Visit (value v) ∷ st) t.shown ∙ ap (run g st) (sym (walk_new g t.lawful v t.shown (sym (t.met v (exists g t.lawful v t.waiting.0)) ∙ sym is))) ∙ t.comes;
       counted = omega (arith, t.counted, traces_traces (uses g v) (Visit (value v) ∷ st), owed_traces g (uses g v) (Visit (value v) ∷ st));
       room = t.room;
-      marked = t.marked;
+      met = t.met;
       waiting = All-append (λ e. live g (value_of e) ≡ true) (traced (uses g v)) (Visit (value v) ∷ st) (All-map (λ e. live g (value_of e) ≡ true) (λ w. Trace (value w)) (uses g v) (all_among (λ w. live g w ≡ true) (uses g v) (λ w h. t.lawful.operands_live v w h))) t.waiting;
       fits = t.fits;
     }
@@ -210,23 +208,23 @@ first {g} {root} {Fits = Fits} lawful alive clear empty is start =
 module _ {g : Flow} {root : ℕ} {marks : List ℕ} {items : List StackEntry} (rest : List StackEntry) {entry : StackEntry} {v : Value} {steps : ℕ} {Fits : List ℕ → Type 0} where
   pub visited : {after : List ℕ} (Fits' : List ℕ → Type 0) → items ≡ rest ++ (entry ∷ []) → entry ≡ Visit v → Walking g root marks items steps Fits → after ≡ set marks v.0 1
       → ((shown : List ℕ) → Fits shown → Fits' (shown ++ (v.0 ∷ []))) → Walking g root after rest (steps + 1) Fits'
-  visited Fits' is top w marked next = walking (rw marked (visit_turn v.0 (reverse rest) Fits' (popped rest is top w) next))
+  visited Fits' is top w written next = walking (rw written (visit_turn v.0 (reverse rest) Fits' (popped rest is top w) next))
 
   pub stopped : (Stops : List ℕ → Type 0) → items ≡ rest ++ (entry ∷ []) → entry ≡ Visit v → Walking g root marks items steps Fits
       → ((shown : List ℕ) → Fits shown → Stops (shown ++ (v.0 ∷ []))) → Stopped g root Stops
   stopped Stops is top w next = stop_turn v.0 (reverse rest) Stops (popped rest is top w) next
 
-  pub met : items ≡ rest ++ (entry ∷ []) → entry ≡ Trace v → Walking g root marks items steps Fits → true ≡ not (eqb (get_or marks v.0 0) 0) → Walking g root marks rest (steps + 1) Fits
-  met is top w marked = walking (met_turn v.0 (reverse rest) (popped rest is top w) marked)
+  pub met_again : items ≡ rest ++ (entry ∷ []) → entry ≡ Trace v → Walking g root marks items steps Fits → true ≡ marked marks v.0 → Walking g root marks rest (steps + 1) Fits
+  met_again is top w seen = walking (met_turn v.0 (reverse rest) (popped rest is top w) seen)
 
-  pub new : {after : List StackEntry} → items ≡ rest ++ (entry ∷ []) → entry ≡ Trace v → Walking g root marks items steps Fits → false ≡ not (eqb (get_or marks v.0 0) 0)
+  pub new : {after : List StackEntry} → items ≡ rest ++ (entry ∷ []) → entry ≡ Trace v → Walking g root marks items steps Fits → false ≡ marked marks v.0
       → reverse after ≡ traced (uses g v.0) ++ (Visit v ∷ reverse rest) → Walking g root marks after (steps + 1) Fits
-  new is top w marked pushed = walking (subst (λ l. Turn g root marks l (steps + 1) Fits) (sym pushed) (new_turn v.0 (reverse rest) (popped rest is top w) marked))
+  new is top w unseen pushed = walking (subst (λ l. Turn g root marks l (steps + 1) Fits) (sym pushed) (new_turn v.0 (reverse rest) (popped rest is top w) unseen))
 
   -- There is room for the visit of a new value and for the operands above it.
-  pub room : items ≡ rest ++ (entry ∷ []) → entry ≡ Trace v → Walking g root marks items steps Fits → false ≡ not (eqb (get_or marks v.0 0) 0) → length rest + length (uses g v.0) < 4097
-  room is top w marked =
-      let t = new_turn v.0 (reverse rest) (popped rest is top w) marked in
+  pub room : items ≡ rest ++ (entry ∷ []) → entry ≡ Trace v → Walking g root marks items steps Fits → false ≡ marked marks v.0 → length rest + length (uses g v.0) < 4097
+  room is top w unseen =
+      let t = new_turn v.0 (reverse rest) (popped rest is top w) unseen in
       omega (arith, to_come t, steps_few g t.lawful root t.alive, length-append (traced (uses g v.0)) (Visit v ∷ reverse rest), length-map (uses g v.0) (λ v. Trace (value v)), length-reverse rest)
 
 pub done : {g : Flow} {root : ℕ} {marks : List ℕ} {items : List StackEntry} {steps : ℕ} {Fits : List ℕ → Type 0} → items ≡ [] → Walking g root marks items steps Fits → Completed g root Fits steps

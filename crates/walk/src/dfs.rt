@@ -43,13 +43,11 @@ pub fn post_order_dfs<G: FlowGraph, V: Visitor>(
     if !is_live(graph, root) {
         return Err(Refusal::from(Cause::NotLive).into());
     }
-    let Some(bytes) = marks.first_chunk_mut() else {
-        return Err(Refusal {
-            cause: Cause::TooShort,
-            place: MARKS as u32,
-        }
-        .into());
+    let too_short = Refusal {
+        cause: Cause::TooShort,
+        place: MARKS as u32,
     };
+    let bytes = marks.first_chunk_mut().ok_or(too_short)?;
     let root = LiveRoot { graph, value: root };
     root.walk(bytes, visitor).map_err(WalkError::Stopped)
 }

@@ -1,4 +1,5 @@
-ghost use Rattle.std.specs.Prelude.{◌≡◌, ◌<◌, not, replicate, ◌==◌, slice_index, slice_set};
+ghost use Rattle.std.specs.Prelude.{◌≡◌, ◌<◌, replicate, slice_set};
+ghost use Rattle.walk.specs.Marks.{marked};
 
 use ir::Value;
 
@@ -25,7 +26,7 @@ impl<'a> Marks<'a> {
     pub(crate) fn mark(&mut self, v: Value)
         requires { v.0 < 1024 }
         ensures same_reference { self.new.bytes.ghost_name ≡ self.old.bytes.ghost_name }
-        ensures marked { self.new.bytes.now ≡ slice_set self.old.bytes.now v.0 1 }
+        ensures after { self.new.bytes.now ≡ slice_set self.old.bytes.now v.0 1 }
     {
         self.bytes[v.0 as usize] = 1;
     }
@@ -33,7 +34,7 @@ impl<'a> Marks<'a> {
     /// Whether `v` is marked.
     pub(crate) fn is_marked(&self, v: Value) -> bool
         requires { v.0 < 1024 }
-        ensures { result ≡ not (slice_index self.now.bytes.now v.0 == 0) }
+        ensures { result ≡ marked self.now.bytes.now v.0 }
     {
         let bytes = &*self.bytes;
         bytes[v.0 as usize] != 0

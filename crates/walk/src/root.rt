@@ -51,6 +51,7 @@ impl<G: FlowGraph> LiveRoot<'_, G> {
         let mut steps = 0;
         while let Some(entry) = stack.pop() {
             steps += 1;
+            // The steps to come are data: closures on the stack would have to be allocated.
             match entry {
                 StackEntry::Visit(v) => {
                     marks.mark(v);

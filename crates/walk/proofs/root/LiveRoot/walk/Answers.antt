@@ -1,6 +1,6 @@
 use Rattle.std.proofs.Common.{refl, rules, ◌∙◌}
 use Rattle.std.proofs.lemmas.Result.{err_from_is_err_and}
-use Rattle.walk.proofs.Turns.{first, visited, stopped, met, new, room, done}
+use Rattle.walk.proofs.Turns.{first, visited, stopped, met_again, new, room, done}
 use Rattle.walk.proofs.root.LiveRoot.walk.Goals as goal
 
 pub loop-entry-init : goal.loop-entry-init
@@ -11,7 +11,7 @@ loop-entry-init g c = record {
 
 pub loop-entry-preserved-in-Continue-1 : goal.loop-entry-preserved-in-Continue-1
 loop-entry-preserved-in-Continue-1 g c = record {
-  walking = visited _ _ c.in-Some.ensures.items c.in-Visit.is c.loop-entry.invariant.walking c.mark.ensures.marked (c.in_ok-show-in-Visit.ensures c.args.visitor.now);
+  walking = visited _ _ c.in-Some.ensures.items c.in-Visit.is c.loop-entry.invariant.walking c.mark.ensures.after (c.in_ok-show-in-Visit.ensures c.args.visitor.now);
   same_reference = c.mark.ensures.same_reference ∙ c.loop-entry.invariant.same_reference;
 }
 
@@ -31,7 +31,7 @@ loop-entry-preserved-then-not-is_marked g c = record {
 
 pub loop-entry-preserved : goal.loop-entry-preserved
 loop-entry-preserved g c = record {
-  walking = met _ c.in-Some.ensures.items c.in-Trace.is c.loop-entry.invariant.walking c.if-not-is_marked.ensures;
+  walking = met_again _ c.in-Some.ensures.items c.in-Trace.is c.loop-entry.invariant.walking c.if-not-is_marked.ensures;
   same_reference = c.loop-entry.invariant.same_reference;
 }
 
