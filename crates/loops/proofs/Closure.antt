@@ -1,7 +1,8 @@
 -- A search that has met the targets of all that it met has met what its start reaches. Assumes nothing.
-use Rattle.std.proofs.Common.{◌≡◌, ℕ, zero, suc, ◌+◌, ◌<◌, ◌≤◌, true, false, not, ◌&&◌, ltb, ◌⊎◌, List, [], ◌∷◌, length, get_or, sym, refl, ap, ◌∙◌, subst, inl, inr, ⊎_elim, arith, length-append}
+use Rattle.std.proofs.Common.{◌≡◌, ℕ, zero, suc, ◌+◌, ◌<◌, ◌≤◌, true, false, not, ◌&&◌, ltb, ◌⊎◌, List, [], ◌∷◌, length, get_or, slice_get, Some, None, sym, refl, ap, ◌∙◌, subst, inl, inr, ⊎_elim, arith, length-append}
 use Rattle.std.proofs.lemmas.List.{get_or_append_left}
-use Rattle.std.proofs.lemmas.Bool.{cases_Bool, cases_eq, both_ways, cond_both, cond-true, and_from, eqb-true, lt-ltb, or_cases, or_left, or_right, eq-eqb}
+use Rattle.std.proofs.lemmas.Option.{slice_get_within, slice_get-get_or, get_or_from_slice_get}
+use Rattle.std.proofs.lemmas.Bool.{cases_Bool, cases_eq, cases_lt, both_ways, cond_both, cond-true, and_from, eqb-true, lt-ltb, or_cases, or_left, or_right, eq-eqb}
 use Rattle.flow.specs.Loops.{Path, one, more}
 use Rattle.flow.specs.Meaning.{has}
 use Rattle.flow.proofs.Among.{has_here, has_append_left, has_push, has_push_cases}
@@ -67,27 +68,33 @@ all_front size met (w ∷ ws) k h = let f = meet_front size met w k h in all_fro
 -- ---- the search
 
 module _ (size : ℕ) (targets : ℕ → List ℕ) (v : ℕ) where
-  -- what is met at first, and after one node more, in the words of the code: n is the size, and ws are the targets
-  pub spreads_start : (n : ℕ) (met met' ws : List ℕ) → n ≡ size → met ≡ [] → ws ≡ targets v → met' ≡ meet_all n met ws → Spreads size targets v met' 0
-  spreads_start n met met' ws same none at is = subst (λ l. Spreads size targets v l 0) (sym (cc)) (record {
+  pub spreads_start : (met : List ℕ) → met ≡ meet_all size [] (targets v) → Spreads size targets v met 0
+  spreads_start met is = subst (λ l. Spreads size targets v l 0) (sym is) (record {
     reached = λ w h. ⊎_elim (λ e. absurd (both_ways false refl e)) (λ e. one e) (all_cases size [] (targets v) w h);
     first = λ w low h. all_met size [] (targets v) w low h;
     onward = λ k w h. absurd (omega arith);
   })
 
-  pub spreads_more : (n : ℕ) (met met' ws : List ℕ) (done : ℕ) → Spreads size targets v met done → n ≡ size → done < length met → ws ≡ targets (get_or met done 0) → met' ≡ meet_all n met ws
-      → Spreads size targets v met' (done + 1)
-  spreads_more n met met' ws done s same low at is = subst (λ l. Spreads size targets v l (done + 1)) (sym (cc)) (record {
-    reached = λ w h. ⊎_elim (λ e. s.reached w e) (λ e. joined (s.reached u (has_get_d met done low)) (one e)) (all_cases size met (targets u) w h);
+  -- one node more, u, has met its targets
+  pub spreads_more : (met met' : List ℕ) (done u : ℕ) → Spreads size targets v met done → slice_get met done ≡ Some u → met' ≡ meet_all size met (targets u) → Spreads size targets v met' (done + 1)
+  spreads_more met met' done u s at is = subst (λ l. Spreads size targets v l (done + 1)) (sym is) (record {
+    reached = λ w h. ⊎_elim (λ e. s.reached w e) (λ e. joined (s.reached u (subst (λ x. has met x ≡ true) here (has_get_d met done low))) (one e)) (all_cases size met (targets u) w h);
     first = λ w l h. all_kept size met (targets u) w (s.first w l h);
     onward = λ k w h l e. ⊎_elim
-        (λ same. all_met size met (targets u) w l (subst (λ x. has (targets x) w ≡ true) (all_front size met (targets u) k (omega arith) ∙ ap (λ i. get_or met i 0) same) e))
-        (λ other. all_kept size met (targets u) w (s.onward k w (omega arith) l (subst (λ x. has (targets x) w ≡ true) (all_front size met (targets u) k (omega arith)) e)))
+        (λ same. all_met size met (targets u) w l (subst (λ x. has (targets x) w ≡ true) (all_front size met (targets u) k (omega (arith, low)) ∙ ap (λ i. get_or met i 0) same ∙ here) e))
+        (λ other. all_kept size met (targets u) w (s.onward k w (omega (arith, low)) l (subst (λ x. has (targets x) w ≡ true) (all_front size met (targets u) k (omega (arith, low))) e)))
         (cases_eq k done);
   })
     where
-      u : ℕ
-      u = get_or met done 0
+      here : get_or met done 0 ≡ u
+      here = get_or_from_slice_get met done u 0 at
+
+      low : done < length met
+      low = slice_get_within met done u at
+
+-- a graph has no more nodes than a graph can have
+pub widened : (size : ℕ) (targets : ℕ → List ℕ) → Finite size targets → Finite 1024 targets
+widened size targets finite = record { few = omega arith; inside = λ v w h. omega (arith, finite.few, finite.inside v w h) }
 
 module _ (size : ℕ) (targets : ℕ → List ℕ) (finite : Finite size targets) where
   -- only nodes have a way on
@@ -95,11 +102,14 @@ module _ (size : ℕ) (targets : ℕ → List ℕ) (finite : Finite size targets
   path_inside {v} {w} (one h) = finite.inside v w h
   path_inside {v} (more {a = b} h p) = finite.inside v b h
 
-  module _ (v : ℕ) (met : List ℕ) (done : ℕ) (s : Spreads size targets v met done) (end : length met ≤ done) where
+  module _ (v : ℕ) (met : List ℕ) (done : ℕ) (s : Spreads size targets v met done) (end : slice_get met done ≡ None) where
+    all_done : length met ≤ done
+    all_done = ⊎_elim (λ low. absurd (let e = slice_get-get_or met done 0 low in cc)) (λ past. past) (cases_lt done (length met))
+
     onwards : (u w : ℕ) → w < size → has met u ≡ true → has (targets u) w ≡ true → has met w ≡ true
     onwards u w low h e =
         let at = has_index met u h in
-        s.onward at.0 w (omega (arith, at.1)) low (subst (λ x. has (targets x) w ≡ true) (sym at.2) e)
+        s.onward at.0 w (omega (arith, at.1, all_done)) low (subst (λ x. has (targets x) w ≡ true) (sym at.2) e)
 
     all_onward : {u w : ℕ} → w < size → has met u ≡ true → Path targets u w → has met w ≡ true
     all_onward {u} {w} low h (one e) = onwards u w low h e

@@ -1,53 +1,86 @@
 -- Where ranks fall along every step there is no loop. Assumes nothing.
-use Rattle.std.proofs.Common.{◌≡◌, ℕ, ◌<◌, true, false, ltb, leb, List, [], ◌∷◌, length, get_or, refl, subst, ⊎_elim, arith}
-use Rattle.std.proofs.lemmas.Bool.{cases_lt, both_ways, and_from, and_parts, or_cases, or_left, or_right, leb-true, ltb-true, le-leb, lt-ltb, eqb-true}
+use Rattle.std.proofs.Common.{◌≡◌, ℕ, ◌+◌, ◌-◌, ◌<◌, ◌≤◌, Bool, true, false, ltb, List, [], ◌∷◌, length, get_or, Option, Some, None, slice_get, Decides, MatchBool, sym, refl, ap, ◌∙◌, subst, ⊎_elim, arith}
+use Rattle.std.specs.List.{AllWithin, HoldsAt, list_all, range_with_len}
+use Rattle.std.proofs.lemmas.Bool.{cases_lt, both_ways, and_from, and_parts, or_cases, or_right, ltb-true, lt-ltb, eqb-true}
+use Rattle.std.proofs.lemmas.List.FromFn.{length-range_with_len, get_or-range_with_len}
+use Rattle.std.proofs.lemmas.Option.{slice_get-get_or}
 use Rattle.flow.specs.Loops.{Path, one, more, Loopless}
 use Rattle.flow.specs.Meaning.{has}
 use Rattle.flow.proofs.Among.{has_here}
 use Rattle.loops.specs.Digraph.{Finite}
-use Rattle.loops.specs.Ranks.{is_lower, all_lower, RanksFall}
+use Rattle.loops.specs.Ranks.{is_below, is_lower, RanksFall}
+use Rattle.loops.specs.declared.dfs.State.{State}
+use Rattle.loops.specs.declared.dfs.State.TheVariants.{New, Open, Finished}
 use Rattle.loops.proofs.Closure.{path_inside}
+
+-- ---- ranks
+
+below_trans : (a b c : Option State) → is_below a b ≡ true → is_below b c ≡ true → is_below a c ≡ true
+unfolding is_below
+below_trans None b c e f = refl
+below_trans (Some New) b c e f = absurd (both_ways false refl e)
+below_trans (Some Open) b c e f = absurd (both_ways false refl e)
+below_trans (Some (Finished x)) None c e f = absurd (both_ways false refl e)
+below_trans (Some (Finished x)) (Some New) c e f = absurd (both_ways false refl e)
+below_trans (Some (Finished x)) (Some Open) c e f = absurd (both_ways false refl e)
+below_trans (Some (Finished x)) (Some (Finished y)) None e f = absurd (both_ways false refl f)
+below_trans (Some (Finished x)) (Some (Finished y)) (Some New) e f = absurd (both_ways false refl f)
+below_trans (Some (Finished x)) (Some (Finished y)) (Some Open) e f = absurd (both_ways false refl f)
+below_trans (Some (Finished x)) (Some (Finished y)) (Some (Finished z)) e f = lt-ltb x z (omega (arith, ltb-true x y e, ltb-true y z f))
+
+not_below_itself : (s : State) → is_below (Some s) (Some s) ≡ true → ⊥
+unfolding is_below
+not_below_itself New e = both_ways false refl e
+not_below_itself Open e = both_ways false refl e
+not_below_itself (Finished x) e = omega (arith, ltb-true x x e)
 
 -- ---- one node's targets
 
-lower_falls : (ranks : List ℕ) (v w : ℕ) → is_lower ranks v w ≡ true → w < length ranks → get_or ranks w 0 < get_or ranks v 0
-lower_falls ranks v w h low = ⊎_elim
-    (λ past. absurd (omega (arith, leb-true (length ranks) w past)))
-    (ltb-true (get_or ranks w 0) (get_or ranks v 0))
-    (or_cases (leb (length ranks) w) (ltb (get_or ranks w 0) (get_or ranks v 0)) h)
-
-falls_lower : (ranks : List ℕ) (v w : ℕ) → (w < length ranks → get_or ranks w 0 < get_or ranks v 0) → is_lower ranks v w ≡ true
-falls_lower ranks v w h = ⊎_elim
-    (λ low. or_right _ _ (lt-ltb (get_or ranks w 0) (get_or ranks v 0) (h low)))
-    (λ past. or_left _ _ (le-leb (length ranks) w past))
-    (cases_lt w (length ranks))
-
-all_fall : (ranks : List ℕ) (v : ℕ) (ws : List ℕ) → all_lower ranks v ws ≡ true → (w : ℕ) → has ws w ≡ true → w < length ranks → get_or ranks w 0 < get_or ranks v 0
-all_fall ranks v [] all w h low = absurd (both_ways false refl h)
-all_fall ranks v (x ∷ ws) all w h low =
+all_has : (p : ℕ → Bool) (ws : List ℕ) → list_all p ws ≡ true → (w : ℕ) → has ws w ≡ true → p w ≡ true
+all_has p [] all w h = absurd (both_ways false refl h)
+all_has p (x ∷ ws) all w h =
     let parts = and_parts _ _ all in
-    ⊎_elim
-    (λ e. let same = eqb-true x w e in subst (λ y. get_or ranks y 0 < get_or ranks v 0) same (lower_falls ranks v x parts.0 (omega arith)))
-    (λ e. all_fall ranks v ws parts.1 w e low)
-    (or_cases _ _ h)
+    ⊎_elim (λ e. ap p (sym (eqb-true x w e)) ∙ parts.0) (λ e. all_has p ws parts.1 w e) (or_cases _ _ h)
 
-fall_all : (ranks : List ℕ) (v : ℕ) (ws : List ℕ) → ((w : ℕ) → has ws w ≡ true → w < length ranks → get_or ranks w 0 < get_or ranks v 0) → all_lower ranks v ws ≡ true
-fall_all ranks v [] h = refl
-fall_all ranks v (w ∷ ws) h = and_from _ _ (falls_lower ranks v w (h w (has_here w ws))) (fall_all ranks v ws (λ u e. h u (or_right _ _ e)))
+has_all : (p : ℕ → Bool) (ws : List ℕ) → ((w : ℕ) → has ws w ≡ true → p w ≡ true) → list_all p ws ≡ true
+has_all p [] h = refl
+has_all p (w ∷ ws) h = and_from _ _ (h w (has_here w ws)) (has_all p ws (λ u e. h u (or_right _ _ e)))
 
 -- ---- every node's targets
 
-module _ (targets : ℕ → List ℕ) (ranks : List ℕ) where
-  pub ranks_fall : (size : ℕ) → Finite size targets → ((v : ℕ) → v < size → all_lower ranks v (targets v) ≡ true) → RanksFall targets ranks
-  ranks_fall size finite all v w h = all_fall ranks v (targets v) (all v (finite.inside v w h)) w h
+module _ (targets : ℕ → List ℕ) (states : List State) where
+  abbrev pub Lower : ℕ → Type 0
+  Lower v = list_all (is_lower states v) (targets v) ≡ true
 
-  pub falling_lower : RanksFall targets ranks → (v : ℕ) → all_lower ranks v (targets v) ≡ true
-  falling_lower falls v = fall_all ranks v (targets v) (falls v)
+  abbrev pub NotLower : ℕ → Type 0
+  NotLower v = list_all (is_lower states v) (targets v) ≡ false
 
-  module _ (size : ℕ) (finite : Finite size targets) (long : length ranks ≡ size) (falls : RanksFall targets ranks) where
-    path_falls : {v w : ℕ} → w < size → Path targets v w → get_or ranks w 0 < get_or ranks v 0
-    path_falls {v} {w} low (one h) = falls v w h (omega arith)
-    path_falls {v} {w} low (more {a = b} h p) = omega (arith, path_falls low p, falls v b h (omega (arith, path_inside size targets finite p)))
+  abbrev pub Tested : List ℕ → Bool → Type 0
+  Tested all r = MatchBool r (AllWithin Lower all 0 (length all)) ((k : ℕ) × (k < length all) × HoldsAt NotLower all k)
 
-    pub falling_loopless : Loopless targets
-    falling_loopless v p = omega (arith, path_falls (path_inside size targets finite p) p)
+  lower_everywhere : RanksFall targets states → (v : ℕ) → Lower v
+  lower_everywhere falls v = has_all (is_lower states v) (targets v) (falls v)
+
+  module _ (size : ℕ) (finite : Finite size targets) where
+    tested_in : (r : Bool) → Tested (range_with_len 0 size) r → Decides r (RanksFall targets states)
+    tested_in true lower = (
+      (λ _ v w h. let low : v < size = finite.inside v w h in
+          all_has (is_lower states v) (targets v) (subst Lower (get_or-range_with_len 0 size v 0 low ∙ omega arith) (lower v 0 (omega arith) (omega (arith, length-range_with_len 0 size)))) w h),
+      (λ _. refl),
+    )
+    tested_in false (k, low, not_lower) = (
+      (λ e. absurd (both_ways false refl e)),
+      (λ falls. absurd (both_ways _ (not_lower 0) (lower_everywhere falls (get_or (range_with_len 0 size) k 0)))),
+    )
+
+    pub ranks_tested : (all : List ℕ) (r : Bool) → all ≡ range_with_len 0 size → Tested all r → Decides r (RanksFall targets states)
+    ranks_tested all r is tested = tested_in r (subst (λ (l : List ℕ). Tested l r) is tested)
+
+    path_falls : RanksFall targets states → {v w : ℕ} → Path targets v w → is_lower states v w ≡ true
+    path_falls falls {v} {w} (one h) = falls v w h
+    path_falls falls {v} {w} (more {a = b} h p) = below_trans (slice_get states w) (slice_get states b) (slice_get states v) (path_falls falls p) (falls v b h)
+
+    pub falling_loopless : RanksFall targets states → 1024 ≤ length states → Loopless targets
+    falling_loopless falls long v p =
+        let here : slice_get states v ≡ Some (get_or states v New) = slice_get-get_or states v New (omega (arith, long, finite.few, path_inside size targets finite p)) in
+        not_below_itself (get_or states v New) (ap (λ s. is_below s s) (sym here) ∙ path_falls falls p)

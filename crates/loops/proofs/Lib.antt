@@ -1,3 +1,4 @@
 mod Closure
 mod Falling
 mod Meetings
+mod FirstLoop

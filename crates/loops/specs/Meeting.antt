@@ -1,12 +1,12 @@
 -- What a search has met. Assumes nothing.
-use Rattle.std.specs.Prelude.{◌≡◌, ℕ, ◌<◌, true, cond, not, ◌&&◌, List, [], ◌∷◌, ◌++◌, take, nat_lt, slice_index}
+use Rattle.std.specs.Prelude.{◌≡◌, ℕ, ◌+◌, ◌<◌, Bool, true, false, cond, not, ◌&&◌, List, [], ◌∷◌, ◌++◌, length, count_by, nat_lt, slice_index, slice_index_or}
 use Rattle.flow.specs.Loops.{Path}
 use Rattle.flow.specs.Meaning.{has}
-use Rattle.loops.specs.declared.met.Met.{Met}
 
--- the nodes met, in order
-abbrev pub nodes : Met → List ℕ
-nodes m = take m.len m.queue
+-- what is marked is what was met, and there is a place for each node that was not
+pub record Marks (marks : List Bool) (met : List ℕ) : Type 0 where
+  pub room : length met + count_by not marks ≡ 1024
+  pub marked : (w : ℕ) → slice_index_or marks w false ≡ has met w
 
 -- w is met too, if it is a node that was not met before
 unfoldable pub meet : ℕ → List ℕ → ℕ → List ℕ

@@ -1,25 +1,91 @@
-ghost use Rattle.std.specs.Prelude.{ℕ, ◌+◌, ◌*◌, ◌<◌, ◌≤◌, not, count_by, slice_index};
+ghost use Rattle.std.specs.Prelude.{◌≡◌, ◌+◌, ◌*◌, ◌<◌, ◌≤◌};
+ghost use Rattle.arrayvec.specs.ArrayVec.{array_vec_len};
+ghost use Rattle.loops.specs.Ranks.{unopened};
+
+use crate::digraph::Digraph;
+use crate::node::{NODES, Node};
+use arrayvec::ArrayVec;
+use ir::{Operands, Value};
 
 /// How many entries the stack can have: the root, and the targets of each node that is opened, three at most.
-pub const STACK_LEN: usize = 3073;
+const STACK_LEN: usize = 3 * NODES + 1;
+
+/// How far a search has come with a node.
+#[derive(Clone, Copy)]
+pub(crate) enum State {
+    New,
+    /// The search has come to it, and goes through what it leads to.
+    Open,
+    /// The search has left it, after as many others as its rank says.
+    Finished(u16),
+}
 
 /// A depth-first search over the nodes of a graph, which ranks each node as it is finished, so after what it leads to.
 #[derive(Drop)]
-pub struct Dfs {
-    /// How many nodes the graph has.
-    size: usize,
-    /// Whether the search has come to a node.
-    opened: [bool; 1024],
-    /// From 1 upward, and 0 for a node that is not finished.
-    ranks: [u16; 1024],
+pub(crate) struct Dfs {
+    pub(crate) states: [State; NODES],
     /// The rank of the node that is finished next.
     next: u16,
-    stack: [u16; STACK_LEN],
-    /// How many entries the stack has.
-    len: usize,
-    ghost few: { size ≤ 1024 },
-    ghost room: { len + 3 * count_by not opened ≤ 3073 },
-    ghost inside: { (k : ℕ) → k < len → slice_index stack k < size },
+    stack: ArrayVec<Node, STACK_LEN>,
+    ghost room: { array_vec_len stack + 3 * unopened states ≤ 3073 },
 }
 
-mod methods;
+impl Dfs {
+    /// Each node is new.
+    pub(crate) fn new() -> Dfs {
+        Dfs {
+            states: [State::New; NODES],
+            next: 0,
+            stack: ArrayVec::new(),
+        }
+    }
+
+    /// Ranks `root` and what it leads to, where they have no rank yet.
+    ///
+    /// A node is finished when the search comes back to it, after the targets that were pushed on top of it. So without
+    /// loops each target has a lower rank.
+    pub(crate) fn rank_from<G: Digraph>(&mut self, graph: &G, root: Node) {
+        self.stack.clear();
+        self.stack.push(root);
+        while let Some(v) = self.stack.last().copied() {
+            match self.states[v.index()] {
+                State::New => {
+                    self.states[v.index()] = State::Open;
+                    self.push_all(graph.targets(v.into()));
+                }
+                State::Open => {
+                    self.states[v.index()] = State::Finished(self.next);
+                    self.next = self.next.saturating_add(1);
+                    self.stack.pop();
+                }
+                State::Finished(_) => {
+                    self.stack.pop();
+                }
+            }
+        }
+    }
+
+    /// Pushes those of the targets that are new.
+    fn push_all(&mut self, targets: Operands)
+        requires { array_vec_len self.old.stack + 3 * unopened self.old.states + 3 ≤ 3073 }
+        ensures len { array_vec_len self.new.stack ≤ array_vec_len self.old.stack + 3 }
+        ensures states { self.new.states ≡ self.old.states }
+    {
+        for w in targets {
+            self.push(w);
+        }
+    }
+
+    /// Pushes `w`, if it is a node that is new.
+    fn push(&mut self, w: Value)
+        requires { array_vec_len self.old.stack + 3 * unopened self.old.states < 3073 }
+        ensures len { array_vec_len self.new.stack ≤ array_vec_len self.old.stack + 1 }
+        ensures states { self.new.states ≡ self.old.states }
+    {
+        if let Some(node) = Node::new(w) {
+            if matches!(self.states[node.index()], State::New) {
+                self.stack.push(node);
+            }
+        }
+    }
+}

@@ -8,6 +8,7 @@ mod digraph;
 mod loopless;
 mod lowest;
 mod met;
+mod node;
 
 pub use digraph::Digraph;
 pub use loopless::is_loopless;

@@ -1,107 +1,59 @@
-ghost use Rattle.std.specs.Prelude.{◌≡◌, ◌+◌, ◌*◌, ◌<◌, ◌≤◌, true, length, Decides};
+ghost use Rattle.std.specs.Prelude.{◌≡◌, true, Decides};
+ghost use Rattle.std.specs.List.{list_all};
 ghost use Rattle.ir.specs.Entities.{values};
 ghost use Rattle.flow.specs.Loops.{Loopless};
-ghost use Rattle.loops.specs.Ranks.{unopened, is_lower, all_lower, RanksFall};
+ghost use Rattle.loops.specs.Ranks.{is_lower, RanksFall};
 
-use crate::dfs::Dfs;
+use crate::dfs::{Dfs, State};
 use crate::digraph::Digraph;
 use crate::lowest::lowest_in_loop;
+use crate::node::{NODES, Node};
 use ir::{Operands, Value};
 
-/// Pushes those of the targets that are new.
-fn push_all(dfs: &mut Dfs, targets: Operands)
-    requires { dfs.old.len + 3 * unopened dfs.old + 3 ≤ 3073 }
-    ensures len { dfs.new.len ≤ dfs.old.len + 3 }
-    ensures opened { dfs.new.opened ≡ dfs.old.opened }
-    ensures size { dfs.new.size ≡ dfs.old.size }
-{
-    match targets {
-        Operands::Nullary => {}
-        Operands::Unary(a) => dfs.push(a),
-        Operands::Binary(a, b) => {
-            dfs.push(a);
-            dfs.push(b);
-        }
-        Operands::Ternary(a, b, c) => {
-            dfs.push(a);
-            dfs.push(b);
-            dfs.push(c);
+/// How far a depth-first search has come with each node once it has gone through the whole graph.
+fn searched<G: Digraph>(graph: &G) -> [State; NODES] {
+    let mut dfs = Dfs::new();
+    for root in 0..graph.num_nodes() {
+        if let Some(root) = Node::new(Value(root)) {
+            dfs.rank_from(graph, root);
         }
     }
-}
-
-/// Ranks `root` and what it leads to, where they have no rank yet.
-///
-/// A node is closed when the search comes back to it, after the targets that were pushed on top of it. So without loops
-/// each target has a lower rank.
-fn rank_from<G: Digraph>(graph: &G, root: Value, dfs: &mut Dfs)
-    requires { root.0 < dfs.old.size }
-    ensures { dfs.new.size ≡ dfs.old.size }
-{
-    dfs.start(root);
-    while let Some(v) = dfs.top() {
-        if dfs.open(v) {
-            push_all(dfs, graph.targets(v));
-        } else {
-            dfs.close(v);
-        }
-    }
-}
-
-/// Ranks every node.
-fn rank_all<G: Digraph>(graph: &G, dfs: &mut Dfs)
-    requires { dfs.old.size ≡ G.size graph.now }
-    ensures { dfs.new.size ≡ dfs.old.size }
-{
-    for v in 0..graph.num_nodes() {
-        rank_from(graph, Value(v), dfs);
-    }
+    dfs.states
 }
 
 /// Whether `w` is no node, or has a lower rank than `v`.
-fn is_lower(ranks: &[u16], v: Value, w: Value) -> bool
-    requires { v.0 < length ranks.now }
-    ensures { result ≡ is_lower ranks.now v.0 w.0 }
+#[tactic(auto, unfolding(crate::specs::Ranks::is_below))]
+fn is_lower(states: &[State; NODES], v: Value, w: Value) -> bool
+    ensures { result ≡ is_lower states.now v.0 w.0 }
 {
-    let i = w.0 as usize;
-    i >= ranks.len() || ranks[i] < ranks[v.0 as usize]
+    match (states.get(w.0 as usize), states.get(v.0 as usize)) {
+        (None, _) => true,
+        (Some(State::Finished(rank)), Some(State::Finished(bound))) => rank < bound,
+        _ => false,
+    }
 }
 
 /// Whether each of the targets is no node, or has a lower rank than `v`.
-fn all_lower(ranks: &[u16], v: Value, targets: Operands) -> bool
-    requires { v.0 < length ranks.now }
-    ensures { result ≡ all_lower ranks.now v.0 (values targets) }
+fn all_lower(states: &[State; NODES], v: Value, targets: Operands) -> bool
+    ensures { result ≡ list_all (is_lower states.now v.0) (values targets) }
 {
-    match targets {
-        Operands::Nullary => true,
-        Operands::Unary(a) => is_lower(ranks, v, a),
-        Operands::Binary(a, b) => is_lower(ranks, v, a) && is_lower(ranks, v, b),
-        Operands::Ternary(a, b, c) => {
-            is_lower(ranks, v, a) && is_lower(ranks, v, b) && is_lower(ranks, v, c)
-        }
-    }
+    targets.iter().all(|w| is_lower(states, v, w))
 }
 
 /// Whether the ranks fall along every step from node to node.
-fn ranks_fall<G: Digraph>(graph: &G, ranks: &[u16]) -> bool
-    requires { length ranks.now ≡ G.size graph.now }
-    ensures { Decides result (RanksFall (G.steps graph.now) ranks.now) }
+fn ranks_fall<G: Digraph>(graph: &G, states: &[State; NODES]) -> bool
+    ensures { Decides result (RanksFall (G.steps graph.now) states.now) }
 {
-    for v in 0..graph.num_nodes() {
-        if !all_lower(ranks, Value(v), graph.targets(Value(v))) {
-            return false;
-        }
-    }
-    true
+    (0..graph.num_nodes())
+        .map(Value)
+        .all(|v| all_lower(states, v, graph.targets(v)))
 }
 
 /// Whether ranks from one depth-first search show that there is no loop.
 fn has_falling_ranks<G: Digraph>(graph: &G) -> bool
     ensures { result ≡ true → Loopless (G.steps graph.now) }
 {
-    let mut dfs = Dfs::new(graph.num_nodes() as usize);
-    rank_all(graph, &mut dfs);
-    ranks_fall(graph, dfs.ranks())
+    ranks_fall(graph, &searched(graph))
 }
 
 /// Whether there is no loop.

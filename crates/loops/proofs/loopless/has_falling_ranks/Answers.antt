@@ -1,9 +1,8 @@
-use Rattle.std.proofs.Common.{◌∙◌}
+use Rattle.std.proofs.Common.{arith}
 use Rattle.loops.proofs.Falling.{falling_loopless}
 use Rattle.loops.proofs.loopless.has_falling_ranks.Goals as goal
 
 pub returns : goal.returns
 returns g c holds =
     let graph = c.args.graph.now in
-    falling_loopless (g.G.Digraph.steps graph) c.ranks.result.now (g.G.Digraph.size graph) (g.G.Digraph.finite graph)
-    (c.ranks.ensures ∙ c.rank_all.ensures ∙ c.new-dfs.ensures ∙ c.num_nodes.ensures) (c.ranks_fall.ensures.0 holds)
+    falling_loopless (g.G.Digraph.steps graph) c.searched.result (g.G.Digraph.size graph) (g.G.Digraph.finite graph) (c.ranks_fall.ensures.0 holds) (omega arith)

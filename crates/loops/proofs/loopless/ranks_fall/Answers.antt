@@ -1,18 +1,19 @@
-use Rattle.std.proofs.Common.{false, refl, ap, ◌∙◌, arith}
-use Rattle.std.proofs.lemmas.Bool.{both_ways}
-use Rattle.loops.specs.Ranks.{all_lower}
-use Rattle.loops.proofs.Falling.{ranks_fall, falling_lower}
+use Rattle.std.proofs.Common.{◌≡◌, ℕ, List, map, rules, arith}
+use Rattle.std.specs.List.{range_with_len}
+use borrow.Author.Tests.{tests}
+use Rattle.ir.specs.declared.entities.Value.{Value}
+use Rattle.std.proofs.lemmas.Iterator.{YieldsList-from_range, YieldsList-from_map_by, cases_from_all}
+use Rattle.loops.proofs.Falling.{Lower, NotLower, ranks_tested}
+use Rattle.loops.proofs.FirstLoop.{map_same}
 use Rattle.loops.proofs.loopless.ranks_fall.Goals as goal
-
-pub returns-then-not-all_lower : goal.returns-then-not-all_lower
-returns-then-not-all_lower g c =
-    let ranks = c.args.ranks.now in
-    let v = c.loop-v.v in (
-      (λ e. absurd (both_ways false refl e)),
-      (λ falls. c.if-not-all_lower.ensures ∙ ap (all_lower ranks v) c.targets.ensures ∙ falling_lower (g.G.Digraph.steps c.args.graph.now) ranks falls v),
-    )
 
 pub returns : goal.returns
 returns g c =
     let graph = c.args.graph.now in
-    ((λ _. ranks_fall (g.G.Digraph.steps graph) c.args.ranks.now (g.G.Digraph.size graph) (g.G.Digraph.finite graph) (λ v h. c.loop-v.invariant v (omega arith))), (λ _. refl))
+    let size = g.G.Digraph.size graph in
+    let steps = g.G.Digraph.steps graph in
+    let states = c.args.states.now in
+    ranks_tested steps states size (g.G.Digraph.finite graph) (map (λ (n : ℕ). n) (range_with_len 0 size)) c.all.result (map_same (range_with_len 0 size))
+    (cases_from_all _ _ c.all.result (Lower steps states) (NotLower steps states) c.all.ensures.ran
+    (YieldsList-from_map_by _ (λ (v : Value). v.0) (λ (n : ℕ). n) (YieldsList-from_range 0 size size (cc) (omega arith)) c.map.ensures.closure (λ x r q k. search (rules, tests)))
+    (λ x q k. search (rules, tests)) (λ x q k. search (rules, tests)))

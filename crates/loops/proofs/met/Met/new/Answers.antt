@@ -1,13 +1,7 @@
-use Rattle.std.proofs.Common.{Bool, false, replicate, arith}
-use lib.ListN.{length-replicate}
-use Rattle.loops.proofs.Meetings.{room_all, none_marked}
+use Rattle.std.proofs.Common.{ℕ, List, false, replicate, refl, sym, subst}
+use Rattle.loops.specs.Meeting.{Marks}
+use Rattle.loops.proofs.Meetings.{none_met}
 use Rattle.loops.proofs.met.Met.new.Goals as goal
 
 pub invariant_of-result : goal.invariant_of-result
-invariant_of-result c =
-    record {
-      few = c.requires;
-      room = omega (arith, room_all (replicate 1024 false) (none_marked 1024), length-replicate {A = Bool} 1024 false);
-      inside = λ k h. absurd (omega arith);
-      marked = none_marked 1024;
-    }
+invariant_of-result c = subst (λ (met : List ℕ). Marks (replicate 1024 false) met) (sym c.new.ensures) (none_met 1024 refl)

@@ -1,0 +1,58 @@
+ghost use Rattle.std.specs.Prelude.{◌≡◌, ◌<◌, ◌≤◌, MatchOption};
+
+use ir::Value;
+use std::marker::Model;
+
+/// How many nodes a graph has at most.
+pub(crate) const NODES: usize = 1024;
+
+/// A value that can be a node, since it is below `NODES`.
+#[derive(Clone, Copy, Default)]
+pub(crate) struct Node {
+    number: u16,
+}
+
+impl Model for Node {
+    ghost use Rattle.std.specs.Prelude.{ℕ, ◌<◌};
+
+    ghost Value = { ℕ };
+
+    ghost view = { λ n. n.number };
+
+    ghost invariant = { λ n. n.number < 1024 };
+
+    ghost inverse = { λ n. record { number = n } };
+}
+
+impl Node {
+    /// The node that `v` is, none where it lies past the nodes.
+    pub(crate) fn new(v: Value) -> Option<Node>
+        ensures { MatchOption result (1024 ≤ v.0) (λ node. (node ≡ v.0) × (node < 1024)) }
+    {
+        if v.0 < NODES as u32 {
+            Some(Node { number: v.0 as u16 })
+        } else {
+            None
+        }
+    }
+
+    /// Its place in an array with a place for each node.
+    #[inline]
+    pub(crate) fn index(self) -> usize
+        ensures value { result ≡ self }
+        ensures in_bounds { result < 1024 }
+    {
+        usize::from(self.number)
+    }
+}
+
+impl From<Node> for Value {
+    ghost use Rattle.std.specs.Prelude.{◌≡◌};
+    ghost use Rattle.ir.specs.Entities.{value};
+
+    ghost from_gives = { λ node v. v ≡ value node };
+
+    fn from(node: Node) -> Value {
+        Value(u32::from(node.number))
+    }
+}
