@@ -68,23 +68,23 @@ all_front size met (w ∷ ws) k h = let f = meet_front size met w k h in all_fro
 -- ---- the search
 
 module _ (size : ℕ) (targets : ℕ → List ℕ) (v : ℕ) where
-  pub spreads_start : (met : List ℕ) → met ≡ meet_all size [] (targets v) → Spreads size targets v met 0
-  spreads_start met is = subst (λ l. Spreads size targets v l 0) (sym is) (record {
+  pub spreads_start : Spreads size targets v (meet_all size [] (targets v)) 0
+  spreads_start = record {
     reached = λ w h. ⊎_elim (λ e. absurd (both_ways false refl e)) (λ e. one e) (all_cases size [] (targets v) w h);
     first = λ w low h. all_met size [] (targets v) w low h;
     onward = λ k w h. absurd (omega arith);
-  })
+  }
 
   -- one node more, u, has met its targets
-  pub spreads_more : (met met' : List ℕ) (done u : ℕ) → Spreads size targets v met done → slice_get met done ≡ Some u → met' ≡ meet_all size met (targets u) → Spreads size targets v met' (done + 1)
-  spreads_more met met' done u s at is = subst (λ l. Spreads size targets v l (done + 1)) (sym is) (record {
+  pub spreads_more : (met : List ℕ) (done u : ℕ) → Spreads size targets v met done → slice_get met done ≡ Some u → Spreads size targets v (meet_all size met (targets u)) (done + 1)
+  spreads_more met done u s at = record {
     reached = λ w h. ⊎_elim (λ e. s.reached w e) (λ e. joined (s.reached u (subst (λ x. has met x ≡ true) here (has_get_d met done low))) (one e)) (all_cases size met (targets u) w h);
     first = λ w l h. all_kept size met (targets u) w (s.first w l h);
     onward = λ k w h l e. ⊎_elim
         (λ same. all_met size met (targets u) w l (subst (λ x. has (targets x) w ≡ true) (all_front size met (targets u) k (omega (arith, low)) ∙ ap (λ i. get_or met i 0) same ∙ here) e))
         (λ other. all_kept size met (targets u) w (s.onward k w (omega (arith, low)) l (subst (λ x. has (targets x) w ≡ true) (all_front size met (targets u) k (omega (arith, low))) e)))
         (cases_eq k done);
-  })
+  }
     where
       here : get_or met done 0 ≡ u
       here = get_or_from_slice_get met done u 0 at

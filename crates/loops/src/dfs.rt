@@ -1,5 +1,6 @@
 ghost use Rattle.std.specs.Prelude.{◌≡◌, ◌+◌, ◌*◌, ◌<◌, ◌≤◌};
 ghost use Rattle.arrayvec.specs.ArrayVec.{array_vec_len};
+ghost use Rattle.loops.specs.declared.dfs.TheConstants.{STACK_LEN};
 ghost use Rattle.loops.specs.Ranks.{unopened};
 
 use crate::digraph::Digraph;
@@ -13,26 +14,36 @@ const STACK_LEN: usize = 3 * NODES + 1;
 /// How far a search has come with a node.
 #[derive(Clone, Copy)]
 pub(crate) enum State {
+    /// It has not come to it.
     New,
-    /// The search has come to it, and goes through what it leads to.
+    /// It has come to it, and goes through what it leads to.
     Open,
-    /// The search has left it, after as many others as its rank says.
+    /// It has left it. The rank is the number of nodes that it left before.
     Finished(u16),
+}
+
+/// How far a depth-first search has come with each node, once it has gone through the whole graph.
+pub(crate) fn search<G: Digraph>(graph: &G) -> [State; NODES] {
+    let mut dfs = Dfs::new();
+    for root in (0..graph.num_nodes()).map(Value).filter_map(Node::new) {
+        dfs.rank_from(graph, root);
+    }
+    dfs.states
 }
 
 /// A depth-first search over the nodes of a graph, which ranks each node as it is finished, so after what it leads to.
 #[derive(Drop)]
-pub(crate) struct Dfs {
-    pub(crate) states: [State; NODES],
+struct Dfs {
+    states: [State; NODES],
     /// The rank of the node that is finished next.
     next: u16,
     stack: ArrayVec<Node, STACK_LEN>,
-    ghost room: { array_vec_len stack + 3 * unopened states ≤ 3073 },
+    ghost room: { array_vec_len stack + 3 * unopened states ≤ STACK_LEN },
 }
 
 impl Dfs {
     /// Each node is new.
-    pub(crate) fn new() -> Dfs {
+    fn new() -> Dfs {
         Dfs {
             states: [State::New; NODES],
             next: 0,
@@ -44,7 +55,7 @@ impl Dfs {
     ///
     /// A node is finished when the search comes back to it, after the targets that were pushed on top of it. So without
     /// loops each target has a lower rank.
-    pub(crate) fn rank_from<G: Digraph>(&mut self, graph: &G, root: Node) {
+    fn rank_from<G: Digraph>(&mut self, graph: &G, root: Node) {
         self.stack.clear();
         self.stack.push(root);
         while let Some(v) = self.stack.last().copied() {
@@ -67,7 +78,7 @@ impl Dfs {
 
     /// Pushes those of the targets that are new.
     fn push_all(&mut self, targets: Operands)
-        requires { array_vec_len self.old.stack + 3 * unopened self.old.states + 3 ≤ 3073 }
+        requires { array_vec_len self.old.stack + 3 * unopened self.old.states + 3 ≤ STACK_LEN }
         ensures len { array_vec_len self.new.stack ≤ array_vec_len self.old.stack + 3 }
         ensures states { self.new.states ≡ self.old.states }
     {
@@ -78,14 +89,14 @@ impl Dfs {
 
     /// Pushes `w`, if it is a node that is new.
     fn push(&mut self, w: Value)
-        requires { array_vec_len self.old.stack + 3 * unopened self.old.states < 3073 }
+        requires { array_vec_len self.old.stack + 3 * unopened self.old.states < STACK_LEN }
         ensures len { array_vec_len self.new.stack ≤ array_vec_len self.old.stack + 1 }
         ensures states { self.new.states ≡ self.old.states }
     {
-        if let Some(node) = Node::new(w) {
-            if matches!(self.states[node.index()], State::New) {
-                self.stack.push(node);
-            }
+        if let Some(node) = Node::new(w)
+            && matches!(self.states[node.index()], State::New)
+        {
+            self.stack.push(node);
         }
     }
 }

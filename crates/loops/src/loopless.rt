@@ -4,22 +4,11 @@ ghost use Rattle.ir.specs.Entities.{values};
 ghost use Rattle.flow.specs.Loops.{Loopless};
 ghost use Rattle.loops.specs.Ranks.{is_lower, RanksFall};
 
-use crate::dfs::{Dfs, State};
+use crate::dfs::{State, search};
 use crate::digraph::Digraph;
 use crate::lowest::lowest_in_loop;
-use crate::node::{NODES, Node};
+use crate::node::NODES;
 use ir::{Operands, Value};
-
-/// How far a depth-first search has come with each node once it has gone through the whole graph.
-fn searched<G: Digraph>(graph: &G) -> [State; NODES] {
-    let mut dfs = Dfs::new();
-    for root in 0..graph.num_nodes() {
-        if let Some(root) = Node::new(Value(root)) {
-            dfs.rank_from(graph, root);
-        }
-    }
-    dfs.states
-}
 
 /// Whether `w` is no node, or has a lower rank than `v`.
 #[tactic(auto, unfolding(crate::specs::Ranks::is_below))]
@@ -53,7 +42,7 @@ fn ranks_fall<G: Digraph>(graph: &G, states: &[State; NODES]) -> bool
 fn has_falling_ranks<G: Digraph>(graph: &G) -> bool
     ensures { result ≡ true → Loopless (G.steps graph.now) }
 {
-    ranks_fall(graph, &searched(graph))
+    ranks_fall(graph, &search(graph))
 }
 
 /// Whether there is no loop.

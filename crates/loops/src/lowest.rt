@@ -8,11 +8,13 @@ use crate::met::Met;
 use ir::Value;
 
 /// The nodes that `start` reaches in one step or more, and no others.
+#[tactic(auto, using(crate::proofs::Closure::spreads_start, crate::proofs::Closure::spreads_more, std::proofs::lemmas::Option::slice_get_within))]
 fn reached<G: Digraph>(graph: &G, start: Value) -> Met
     ensures { Reached 1024 (G.steps graph.now) start.0 result }
 {
     let mut met = Met::new();
     met.insert_all(graph.targets(start));
+    // The list grows while it is gone through, so it is read by place: an iterator would borrow it.
     let mut done = 0;
     while let Some(u) = met.get(done) {
         met.insert_all(graph.targets(u.into()));

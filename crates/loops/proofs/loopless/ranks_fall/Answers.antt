@@ -1,4 +1,4 @@
-use Rattle.std.proofs.Common.{◌≡◌, ℕ, List, map, rules, arith}
+use Rattle.std.proofs.Common.{ℕ, map, rules, arith}
 use Rattle.std.specs.List.{range_with_len}
 use borrow.Author.Tests.{tests}
 use Rattle.ir.specs.declared.entities.Value.{Value}

@@ -1,4 +1,4 @@
-use Rattle.std.proofs.Common.{rules, arith, map, List, ℕ}
+use Rattle.std.proofs.Common.{rules, arith, map, ℕ}
 use Rattle.std.specs.List.{range_with_len}
 use borrow.Author.Tests.{tests}
 use Rattle.ir.specs.declared.entities.Value.{Value}
