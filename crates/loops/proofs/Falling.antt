@@ -55,26 +55,22 @@ module _ (targets : ℕ → List ℕ) (states : List State) where
   abbrev pub NotLower : ℕ → Type 0
   NotLower v = list_all (is_lower states v) (targets v) ≡ false
 
-  abbrev pub Tested : List ℕ → Bool → Type 0
-  Tested all r = MatchBool r (AllWithin Lower all 0 (length all)) ((k : ℕ) × (k < length all) × HoldsAt NotLower all k)
-
   lower_everywhere : RanksFall targets states → (v : ℕ) → Lower v
   lower_everywhere falls v = has_all (is_lower states v) (targets v) (falls v)
 
   module _ (size : ℕ) (finite : Finite size targets) where
-    tested_in : (r : Bool) → Tested (range_with_len 0 size) r → Decides r (RanksFall targets states)
-    tested_in true lower = (
+    pub ranks_tested : (r : Bool)
+        → MatchBool r (AllWithin Lower (range_with_len 0 size) 0 (length (range_with_len 0 size))) ((k : ℕ) × (k < length (range_with_len 0 size)) × HoldsAt NotLower (range_with_len 0 size) k)
+        → Decides r (RanksFall targets states)
+    ranks_tested true lower = (
       (λ _ v w h. let low : v < size = finite.inside v w h in
           all_has (is_lower states v) (targets v) (subst Lower (get_or-range_with_len 0 size v 0 low ∙ omega arith) (lower v 0 (omega arith) (omega (arith, length-range_with_len 0 size)))) w h),
       (λ _. refl),
     )
-    tested_in false (k, low, not_lower) = (
+    ranks_tested false (k, low, not_lower) = (
       (λ e. absurd (both_ways false refl e)),
       (λ falls. absurd (both_ways _ (not_lower 0) (lower_everywhere falls (get_or (range_with_len 0 size) k 0)))),
     )
-
-    pub ranks_tested : (all : List ℕ) (r : Bool) → all ≡ range_with_len 0 size → Tested all r → Decides r (RanksFall targets states)
-    ranks_tested all r is tested = tested_in r (subst (λ (l : List ℕ). Tested l r) is tested)
 
     path_falls : RanksFall targets states → {v w : ℕ} → Path targets v w → is_lower states v w ≡ true
     path_falls falls {v} {w} (one h) = falls v w h

@@ -1,4 +1,5 @@
 mod Closure
+mod Counted
 mod Falling
 mod Meetings
 mod FirstLoop

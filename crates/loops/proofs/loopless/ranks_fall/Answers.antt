@@ -1,10 +1,9 @@
-use Rattle.std.proofs.Common.{ℕ, map, rules, arith}
-use Rattle.std.specs.List.{range_with_len}
+use Rattle.std.proofs.Common.{ℕ, rules, arith}
 use borrow.Author.Tests.{tests}
 use Rattle.ir.specs.declared.entities.Value.{Value}
 use Rattle.std.proofs.lemmas.Iterator.{YieldsList-from_range, YieldsList-from_map_by, cases_from_all}
+use Rattle.loops.proofs.Counted.{counted}
 use Rattle.loops.proofs.Falling.{Lower, NotLower, ranks_tested}
-use Rattle.loops.proofs.FirstLoop.{map_same}
 use Rattle.loops.proofs.loopless.ranks_fall.Goals as goal
 
 pub returns : goal.returns
@@ -13,7 +12,7 @@ returns g c =
     let size = g.G.Digraph.size graph in
     let steps = g.G.Digraph.steps graph in
     let states = c.args.states.now in
-    ranks_tested steps states size (g.G.Digraph.finite graph) (map (λ (n : ℕ). n) (range_with_len 0 size)) c.all.result (map_same (range_with_len 0 size))
+    ranks_tested steps states size (g.G.Digraph.finite graph) c.all.result
     (cases_from_all _ _ c.all.result (Lower steps states) (NotLower steps states) c.all.ensures.ran
-    (YieldsList-from_map_by _ (λ (v : Value). v.0) (λ (n : ℕ). n) (YieldsList-from_range 0 size size (cc) (omega arith)) c.map.ensures.closure (λ x r q k. search (rules, tests)))
+    (counted size (YieldsList-from_map_by _ (λ (v : Value). v.0) (λ (n : ℕ). n) (YieldsList-from_range 0 size size (cc) (omega arith)) c.map.ensures.closure (λ x r q k. search (rules, tests))))
     (λ x q k. search (rules, tests)) (λ x q k. search (rules, tests)))

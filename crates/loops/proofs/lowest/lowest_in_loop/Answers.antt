@@ -1,9 +1,9 @@
-use Rattle.std.proofs.Common.{rules, arith, map, ℕ}
-use Rattle.std.specs.List.{range_with_len}
+use Rattle.std.proofs.Common.{rules, arith, ℕ}
 use borrow.Author.Tests.{tests}
 use Rattle.ir.specs.declared.entities.Value.{Value}
 use Rattle.std.proofs.lemmas.Iterator.{YieldsList-from_range, YieldsList-from_map_by, first_from_find}
-use Rattle.loops.proofs.FirstLoop.{map_same, Looped, Unlooped, lowest_found}
+use Rattle.loops.proofs.Counted.{counted}
+use Rattle.loops.proofs.FirstLoop.{Looped, Unlooped, lowest_found}
 use Rattle.loops.proofs.lowest.lowest_in_loop.Goals as goal
 
 pub returns : goal.returns
@@ -13,7 +13,7 @@ returns g c =
     let steps = g.G.Digraph.steps graph in
     let looped = Looped size steps (g.G.Digraph.finite graph) in
     let unlooped = Unlooped size steps (g.G.Digraph.finite graph) in
-    lowest_found size steps (g.G.Digraph.finite graph) (map (λ (n : ℕ). n) (range_with_len 0 size)) c.find.result (map_same (range_with_len 0 size))
+    lowest_found size steps (g.G.Digraph.finite graph) c.find.result
     (first_from_find _ _ c.find.result looped unlooped c.find.ensures.ran
-    (YieldsList-from_map_by _ (λ (v : Value). v.0) (λ (n : ℕ). n) (YieldsList-from_range 0 size size (cc) (omega arith)) c.map.ensures.closure (λ x r q k. search (rules, tests)))
+    (counted size (YieldsList-from_map_by _ (λ (v : Value). v.0) (λ (n : ℕ). n) (YieldsList-from_range 0 size size (cc) (omega arith)) c.map.ensures.closure (λ x r q k. search (rules, tests))))
     (λ x q k. search (rules, tests)) (λ x q k. search (rules, tests)))
