@@ -6,13 +6,13 @@ ghost use Rattle.loops.specs.Ranks.{unopened};
 use crate::digraph::Digraph;
 use crate::node::{NODES, Node};
 use arrayvec::ArrayVec;
-use ir::{Operands, Value};
+use ir::Value;
 
 /// How many entries the stack can have: the root, and the targets of each node that is opened, three at most.
 const STACK_LEN: usize = 3 * NODES + 1;
 
 /// How far a search has come with a node.
-#[derive(Clone, Copy)]
+#[derive(Clone, Copy, PartialEq, Eq, Debug)]
 pub(crate) enum State {
     /// It has not come to it.
     New,
@@ -24,16 +24,17 @@ pub(crate) enum State {
 
 /// How far a depth-first search has come with each node, once it has gone through the whole graph.
 pub(crate) fn search<G: Digraph>(graph: &G) -> [State; NODES] {
-    let mut dfs = Dfs::new();
+    let mut dfs = Dfs::new(graph);
     for root in (0..graph.num_nodes()).map(Value).filter_map(Node::new) {
-        dfs.rank_from(graph, root);
+        dfs.rank_from(root);
     }
     dfs.states
 }
 
-/// A depth-first search over the nodes of a graph, which ranks each node as it is finished, so after what it leads to.
+/// A depth-first search of a graph, which ranks each node as it is finished, so after what it leads to.
 #[derive(Drop)]
-struct Dfs {
+struct Dfs<'a, G> {
+    graph: &'a G,
     states: [State; NODES],
     /// The rank of the node that is finished next.
     next: u16,
@@ -41,10 +42,11 @@ struct Dfs {
     ghost room: { array_vec_len stack + 3 * unopened states ≤ STACK_LEN },
 }
 
-impl Dfs {
+impl<'a, G: Digraph> Dfs<'a, G> {
     /// Each node is new.
-    fn new() -> Dfs {
+    fn new(graph: &'a G) -> Self {
         Dfs {
+            graph,
             states: [State::New; NODES],
             next: 0,
             stack: ArrayVec::new(),
@@ -55,14 +57,16 @@ impl Dfs {
     ///
     /// A node is finished when the search comes back to it, after the targets that were pushed on top of it. So without
     /// loops each target has a lower rank.
-    fn rank_from<G: Digraph>(&mut self, graph: &G, root: Node) {
+    fn rank_from(&mut self, root: Node) {
         self.stack.clear();
         self.stack.push(root);
         while let Some(v) = self.stack.last().copied() {
             match self.states[v.index()] {
                 State::New => {
                     self.states[v.index()] = State::Open;
-                    self.push_all(graph.targets(v.into()));
+                    for w in self.graph.targets(v.into()) {
+                        self.push(w);
+                    }
                 }
                 State::Open => {
                     self.states[v.index()] = State::Finished(self.next);
@@ -76,17 +80,6 @@ impl Dfs {
         }
     }
 
-    /// Pushes those of the targets that are new.
-    fn push_all(&mut self, targets: Operands)
-        requires { array_vec_len self.old.stack + 3 * unopened self.old.states + 3 ≤ STACK_LEN }
-        ensures len { array_vec_len self.new.stack ≤ array_vec_len self.old.stack + 3 }
-        ensures states { self.new.states ≡ self.old.states }
-    {
-        for w in targets {
-            self.push(w);
-        }
-    }
-
     /// Pushes `w`, if it is a node that is new.
     fn push(&mut self, w: Value)
         requires { array_vec_len self.old.stack + 3 * unopened self.old.states < STACK_LEN }
@@ -94,7 +87,7 @@ impl Dfs {
         ensures states { self.new.states ≡ self.old.states }
     {
         if let Some(node) = Node::new(w)
-            && matches!(self.states[node.index()], State::New)
+            && self.states[node.index()] == State::New
         {
             self.stack.push(node);
         }

@@ -7,7 +7,7 @@ use std::marker::Model;
 pub(crate) const NODES: usize = 1024;
 
 /// A value that can be a node, since it is below `NODES`.
-#[derive(Clone, Copy, Default)]
+#[derive(Clone, Copy, PartialEq, Eq, Default, Debug)]
 pub(crate) struct Node {
     number: u16,
 }
