@@ -1,4 +1,4 @@
-ghost use Rattle.std.specs.Prelude.{◌≡◌, ◌+◌, ◌*◌, ◌<◌, ◌≤◌};
+ghost use Rattle.std.specs.Prelude.{◌+◌, ◌*◌, ◌≤◌};
 ghost use Rattle.arrayvec.specs.ArrayVec.{array_vec_len};
 ghost use Rattle.loops.specs.declared.dfs.TheConstants.{STACK_LEN};
 ghost use Rattle.loops.specs.Ranks.{unopened};
@@ -65,7 +65,9 @@ impl<'a, G: Digraph> Dfs<'a, G> {
                 State::New => {
                     self.states[v.index()] = State::Open;
                     for w in self.graph.targets(v.into()) {
-                        self.push(w);
+                        if let Some(node) = self.new_node(w) {
+                            self.stack.push(node);
+                        }
                     }
                 }
                 State::Open => {
@@ -80,16 +82,8 @@ impl<'a, G: Digraph> Dfs<'a, G> {
         }
     }
 
-    /// Pushes `w`, if it is a node that is new.
-    fn push(&mut self, w: Value)
-        requires { array_vec_len self.old.stack + 3 * unopened self.old.states < STACK_LEN }
-        ensures len { array_vec_len self.new.stack ≤ array_vec_len self.old.stack + 1 }
-        ensures states { self.new.states ≡ self.old.states }
-    {
-        if let Some(node) = Node::new(w)
-            && self.states[node.index()] == State::New
-        {
-            self.stack.push(node);
-        }
+    /// The node that `w` is, none where it is no node or the search has come to it.
+    fn new_node(&self, w: Value) -> Option<Node> {
+        Node::new(w).filter(|node| self.states[node.index()] == State::New)
     }
 }
