@@ -7,11 +7,10 @@ use Rattle.ir.specs.Refusals.{because, first_fault}
 use Rattle.ir.specs.declared.refusal.Cause.TheVariants.{NotRecords}
 use Rattle.records.specs.Faults.{fault_by, record_fault, is_whole, records_refusal}
 use Rattle.records.specs.Fields.{record_count}
-use Rattle.records.specs.Indexed.{with_noted}
 use Rattle.records.specs.Kinds.{kind_at, is_value, is_inst, is_value_at, is_inst_at, value_places, inst_places}
 use Rattle.records.specs.declared.record.Kind.{Kind}
 use Rattle.records.specs.declared.record.Kind.TheVariants.{Value, Inst, Unknown}
-use Rattle.records.proofs.Indexing.{kept_more, kept_length}
+use Rattle.records.proofs.Indexing.{kept_more, kept_length, with_noted}
 
 -- a record that nothing stands against is of a value or of an instruction
 known_kind : (bs : List ℕ) (k : ℕ) (t : Kind) → fault_by bs k t ≡ None → is_value t || is_inst t ≡ true

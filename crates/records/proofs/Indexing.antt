@@ -1,40 +1,8 @@
 -- An index lists the records of each kind. Assumes nothing.
-use Rattle.std.proofs.Common.{◌≡◌, ℕ, zero, suc, ◌+◌, ◌-◌, ◌<◌, ◌≤◌, Bool, true, false, cond, ltb, List, [], ◌∷◌, ◌++◌, length, filter, sym, refl, ap, ◌∙◌, inl, inr, add-zero, suc-add, zero-add, arith, length-take}
+use Rattle.std.proofs.Common.{◌≡◌, ℕ, zero, suc, ◌+◌, ◌-◌, ◌<◌, ◌≤◌, Bool, true, false, cond, List, [], ◌∷◌, ◌++◌, length, filter, sym, refl, ap, ◌∙◌, add-zero, suc-add, zero-add, arith}
 use Rattle.std.specs.List.{range_with_len}
 use Rattle.std.proofs.lemmas.List.Elements.{filter-append}
 use Rattle.std.proofs.lemmas.List.{append-nil, length-append}
-use Rattle.std.proofs.lemmas.Bool.{ltb-false}
-use Rattle.records.specs.Indexed.{Noted, with_noted}
-use Rattle.records.specs.Kinds.{is_value, is_inst, kind_at}
-use Rattle.records.specs.Listed.{listed}
-use Rattle.records.specs.declared.index.Index.{Index}
-use Rattle.records.specs.declared.places.Places.{Places}
-use Rattle.records.specs.declared.record.Kind.TheVariants.{Value, Inst}
-
-pub listed_few : (p : Places) → length (listed p) ≤ 1024
-unfolding listed
-listed_few p = omega (arith, length-take p.len p.entries, p.few)
-
--- a table that takes no more is full
-full : (p : Places) → false ≡ ltb (length (listed p)) 1024 → length (listed p) ≡ 1024
-full p e = omega (arith, ltb-false (length (listed p)) 1024 (sym e), listed_few p)
-
-module _ (bs : List ℕ) (k : ℕ) (before after : Index) where
-  pub noted_value : (b : Bool) → Value ≡ kind_at bs k → b ≡ ltb (length (listed before.values)) 1024
-      → listed after.values ≡ cond b (listed before.values ++ k ∷ []) (listed before.values) → after.insts ≡ before.insts → Noted bs k before after b
-  noted_value true is room e same = (
-    e ∙ ap (λ t. with_noted (is_value t) k (listed before.values)) is,
-    ap listed same ∙ ap (λ t. with_noted (is_inst t) k (listed before.insts)) is,
-  )
-  noted_value false is room e same = inl (sym (ap is_value is), full before.values room)
-
-  pub noted_inst : (b : Bool) → Inst ≡ kind_at bs k → b ≡ ltb (length (listed before.insts)) 1024
-      → listed after.insts ≡ cond b (listed before.insts ++ k ∷ []) (listed before.insts) → after.values ≡ before.values → Noted bs k before after b
-  noted_inst true is room e same = (
-    ap listed same ∙ ap (λ t. with_noted (is_value t) k (listed before.values)) is,
-    e ∙ ap (λ t. with_noted (is_inst t) k (listed before.insts)) is,
-  )
-  noted_inst false is room e same = inr (sym (ap is_inst is), full before.insts room)
 
 -- ---- what is kept of the numbers below n
 
@@ -42,6 +10,10 @@ pub counting_split : (a m n : ℕ) → range_with_len a (m + n) ≡ range_with_l
 counting_split a zero n = simp (zero-add, add-zero)
 counting_split a (suc m) n =
     ap (range_with_len a) (suc-add m n) ∙ ap (λ l. a ∷ l) (counting_split (a + 1) m n ∙ ap (λ s. range_with_len (a + 1) m ++ range_with_len s n) (omega arith))
+
+-- one more number k behind a list, if it is kept
+abbrev pub with_noted : Bool → ℕ → List ℕ → List ℕ
+with_noted is k places = cond is (places ++ k ∷ []) places
 
 module _ (p : ℕ → Bool) where
   pub kept_split : (m n : ℕ) → filter p (range_with_len 0 (m + n)) ≡ filter p (range_with_len 0 m) ++ filter p (range_with_len m n)

@@ -1,52 +1,77 @@
--- What a look-up in a list of record numbers says. Assumes nothing.
-use Rattle.std.proofs.Common.{◌≡◌, ℕ, ◌<◌, ◌≤◌, Bool, true, false, cond, ◌&&◌, eqb, ltb, List, map, length, get_or, Some, None, sym, refl, ap, ◌∙◌, arith}
-use Rattle.std.proofs.lemmas.List.{get_or-map, get_or_past, get_or_default, length-map}
-use Rattle.std.proofs.lemmas.Bool.{ltb-true, ltb-false, lt-ltb, le-ltb}
-use Rattle.records.specs.Listed.{found}
+-- What a look-up in a list says. Assumes nothing.
+use Rattle.std.proofs.Common.{◌≡◌, ℕ, zero, suc, ◌+◌, ◌-◌, ◌*◌, ◌<◌, ◌≤◌, Bool, true, false, ◌&&◌, ◌||◌, eqb, ltb, List, [], ◌∷◌, map, length, get_or, take, drop, Some, None, Option, Bor, MatchOption, sym, refl, ap, ◌∙◌, arith, mul-zero, mul-suc, add_comm}
+use Rattle.std.proofs.lemmas.Bool.{le-ltb, ne_eqb}
+use Rattle.std.proofs.lemmas.List.{get_or-drop, get_or-take, drop-drop}
+use Rattle.std.specs.List.{list_all, range_with_len, slice_get, zip}
+use Rattle.std.specs.Option.{option_map, unwrap_or}
+use Rattle.std.specs.Result.{result_unwrap_or}
+use Rattle.std.specs.Simd.{first_chunks}
+use Rattle.ir.specs.Codes.{known}
 
-pub found_in : (xs : List ℕ) (i k : ℕ) → Some k ≡ found xs i → (i < length xs) × (k ≡ get_or xs i 0)
-found_in xs i k e = at (ltb i (length xs)) refl e
-  where
-    at : (b : Bool) → ltb i (length xs) ≡ b → Some k ≡ cond b (Some (get_or xs i 0)) None → (i < length xs) × (k ≡ get_or xs i 0)
-    at true l q = (ltb-true i (length xs) l, cc)
-    at false l q = let z : ◌≡◌ {A = ℕ} 0 1 = cc in absurd (omega arith)
+-- piece k of the first m pieces of n elements
+pub piece_at : {X : Type 0} (n m k : ℕ) (xs : List X) (d : List X) → k < m → get_or (first_chunks n m xs) k d ≡ take n (drop (n * k) xs)
+piece_at n zero k xs d l = absurd (omega arith)
+piece_at n (suc m) zero xs d l = simp mul-zero
+piece_at n (suc m) (suc k) xs d l = piece_at n m k (drop n xs) d (omega arith) ∙ ap (take n) (drop-drop (n * k) n xs ∙ ap (λ i. drop i xs) (add_comm n (n * k) ∙ sym (mul-suc n k)))
 
-pub found_past : (xs : List ℕ) (i : ℕ) → None ≡ found xs i → length xs ≤ i
-found_past xs i e = at (ltb i (length xs)) refl e
-  where
-    at : (b : Bool) → ltb i (length xs) ≡ b → None ≡ cond b (Some (get_or xs i 0)) None → length xs ≤ i
-    at true l q = let z : ◌≡◌ {A = ℕ} 0 1 = cc in absurd (omega arith)
-    at false l q = ltb-false i (length xs) l
+pub no_piece : {X : Type 0} (n m k : ℕ) (xs : List X) (d : List X) → m ≤ k → get_or (first_chunks n m xs) k d ≡ d
+no_piece n zero k xs d l = refl
+no_piece n (suc m) zero xs d l = absurd (omega arith)
+no_piece n (suc m) (suc k) xs d l = no_piece n m k (drop n xs) d (omega arith)
 
--- what is read by each number of a list
-module _ {A : Type 0} (f : ℕ → A) (xs ys : List ℕ) (same : ys ≡ xs) (i : ℕ) (d : A) where
-  pub found_read : (k : ℕ) → Some k ≡ found ys i → f k ≡ get_or (map f xs) i d
-  found_read k e =
-      let at = found_in ys i k e in
-      ap f at.1 ∙ sym (get_or-map f ys i 0 d at.0) ∙ ap (λ l. get_or (map f l) i d) same
+-- what stands behind a reference that may be missing
+pub now-unwrap_or : {X : Type 0} (o : Option (Bor X)) (b : Bor X) → (unwrap_or o b).now ≡ unwrap_or (option_map (λ x. x.now) o) b.now
+now-unwrap_or None b = refl
+now-unwrap_or (Some x) b = refl
 
-  pub none_read : None ≡ found ys i → d ≡ get_or (map f xs) i d
-  none_read e =
-      let past = found_past ys i e in
-      sym (get_or_past (map f ys) i d (omega (arith, length-map ys f))) ∙ ap (λ l. get_or (map f l) i d) same
+-- what is read by the number at a place of a list, d where there is none
+pub read_by : {A : Type 0} (f : ℕ → A) (ks : List ℕ) (i : ℕ) (d r : A) (Q : ℕ → Type 0) (o : Option ℕ) → o ≡ slice_get ks i → MatchOption o (r ≡ d) Q → ((k : ℕ) → Q k → r ≡ f k) → r ≡ get_or (map f ks) i d
+read_by f [] i d r Q o e h read = rw e at h
+read_by f (k ∷ ks) zero d r Q o e h read = read k (rw e at h)
+read_by f (k ∷ ks) (suc i) d r Q o e h read = read_by f ks i d r Q o e h read
 
--- ---- is it this record, and is it behind
+and_true : (b : Bool) → b && true ≡ b
+and_true true = refl
+and_true false = refl
 
-module _ (xs ys : List ℕ) (same : ys ≡ xs) (i k : ℕ) where
-  pub found_is : (place : ℕ) → Some place ≡ found ys i → eqb place k ≡ (ltb i (length xs) && eqb (get_or xs i 0) k)
-  found_is place e =
-      let at = found_in ys i place e in
-      ap (λ n. eqb n k) at.1 ∙ sym (ap (λ b. b && eqb (get_or ys i 0) k) (lt-ltb i (length ys) at.0)) ∙ ap (λ l. ltb i (length l) && eqb (get_or l i 0) k) same
+-- a test of the first n of three numbers
+pub first_of_three : (p : ℕ → Bool) (xs : List ℕ) (n : ℕ) → length xs ≡ 3
+    → list_all p (take n xs) ≡ ((ltb n 1 || p (get_or xs 0 0)) && ((ltb n 2 || p (get_or xs 1 0)) && (ltb n 3 || p (get_or xs 2 0))))
+first_of_three p [] n e = absurd (omega arith)
+first_of_three p (a ∷ []) n e = absurd (omega arith)
+first_of_three p (a ∷ b ∷ []) n e = absurd (omega arith)
+first_of_three p (a ∷ b ∷ c ∷ []) zero e = refl
+first_of_three p (a ∷ b ∷ c ∷ []) (suc zero) e = refl
+first_of_three p (a ∷ b ∷ c ∷ []) (suc (suc zero)) e = refl
+first_of_three p (a ∷ b ∷ c ∷ []) (suc (suc (suc zero))) e = ap (λ t. p a && (p b && t)) (and_true (p c))
+first_of_three p (a ∷ b ∷ c ∷ []) (suc (suc (suc (suc n)))) e =
+    let m = suc (suc (suc (suc n))) in
+    let one : ltb m 1 ≡ false = le-ltb m 1 (omega arith) in
+    let two : ltb m 2 ≡ false = le-ltb m 2 (omega arith) in
+    let three : ltb m 3 ≡ false = le-ltb m 3 (omega arith) in
+    simp (one, two, three) (ap (λ t. p a && (p b && t)) (and_true (p c)))
+first_of_three p (a ∷ b ∷ c ∷ d ∷ xs) n e = absurd (omega arith)
 
-  pub none_is : None ≡ found ys i → false ≡ (ltb i (length xs) && eqb (get_or xs i 0) k)
-  none_is e =
-      sym (ap (λ b. b && eqb (get_or ys i 0) k) (le-ltb i (length ys) (found_past ys i e))) ∙ ap (λ l. ltb i (length l) && eqb (get_or l i 0) k) same
+-- a test of the first n of two numbers and their places
+pub first_of_two : (p : ℕ × ℕ → Bool) (xs : List ℕ) (n : ℕ) → length xs ≡ 2
+    → list_all p (zip (take n xs) (range_with_len 0 2)) ≡ ((eqb n 0 || p (get_or xs 0 0, 0)) && (ltb n 2 || p (get_or xs 1 0, 1)))
+first_of_two p [] n e = absurd (omega arith)
+first_of_two p (a ∷ []) n e = absurd (omega arith)
+first_of_two p (a ∷ b ∷ []) zero e = refl
+first_of_two p (a ∷ b ∷ []) (suc zero) e = refl
+first_of_two p (a ∷ b ∷ []) (suc (suc zero)) e = ap (λ t. p (a, 0) && t) (and_true (p (b, 1)))
+first_of_two p (a ∷ b ∷ []) (suc (suc (suc n))) e =
+    let m = suc (suc (suc n)) in
+    let some : eqb m 0 ≡ false = ne_eqb m 0 (λ z. absurd (omega arith)) in
+    let two : ltb m 2 ≡ false = le-ltb m 2 (omega arith) in
+    simp (some, two) (ap (λ t. p (a, 0) && t) (and_true (p (b, 1))))
+first_of_two p (a ∷ b ∷ c ∷ xs) n e = absurd (omega arith)
 
-  pub found_before : (place : ℕ) → Some place ≡ found ys i → ltb place k ≡ ltb (get_or xs i k) k
-  found_before place e =
-      let at = found_in ys i place e in
-      ap (λ n. ltb n k) (at.1 ∙ get_or_default ys i 0 k at.0) ∙ ap (λ l. ltb (get_or l i k) k) same
+-- a byte of the n bytes from a place on
+pub byte_in : (r : List ℕ) (at n : ℕ) (bs : List ℕ) → bs ≡ take (at + n - at) (drop at r) → (i : ℕ) → i < n → get_or bs i 0 ≡ get_or r (at + i) 0
+byte_in r at n bs e i l = ap (λ l. get_or l i 0) e ∙ get_or-take (at + n - at) (drop at r) i 0 (omega arith) ∙ get_or-drop at r i 0
 
-  pub none_before : None ≡ found ys i → false ≡ ltb (get_or xs i k) k
-  none_before e =
-      sym (le-ltb k k (omega arith)) ∙ sym (ap (λ n. ltb n k) (get_or_past ys i k (found_past ys i e))) ∙ ap (λ l. ltb (get_or l i k) k) same
+-- what a number stands for, or something else where it is unknown
+pub known_or : {A : Type 0} (o : Option A) (d : A) → result_unwrap_or (known o) d ≡ unwrap_or o d
+known_or None d = refl
+known_or (Some x) d = refl

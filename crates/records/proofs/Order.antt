@@ -7,13 +7,12 @@ use Rattle.ir.specs.declared.refusal.Cause.{Cause}
 use Rattle.ir.proofs.Faults.{none_stands}
 use Rattle.records.specs.Faults.{behind_inst, fault_by, is_whole, record_fault, records_refusal, value_shape}
 use Rattle.records.specs.Fields.{record_at, record_count, value_record}
-use Rattle.records.specs.Indexed.{with_noted}
 use Rattle.records.specs.Kinds.{kind_at, is_value, is_inst, is_value_at, is_inst_at, value_places, inst_places}
 use Rattle.records.specs.Order.{CleanInOrder}
 use Rattle.records.specs.declared.record.Kind.{Kind}
 use Rattle.records.specs.declared.record.Kind.TheVariants.{Value, Inst, Unknown}
 use Rattle.records.proofs.Clean.{clean_kind, not_whole, whole}
-use Rattle.records.proofs.Indexing.{counting_split, kept_more, kept_split}
+use Rattle.records.proofs.Indexing.{counting_split, kept_more, kept_split, with_noted}
 
 -- ---- numbers that are kept by one of two tests, by the second behind all of the first
 

@@ -1,5 +1,6 @@
 -- The format of an image, field by field: records of 40 bytes with no header, numbers little-endian. Assumes nothing.
-use Rattle.std.specs.Prelude.{ℕ, zero, suc, ◌+◌, ◌*◌, ◌/◌, ◌%◌, Bool, true, cond, ◌&&◌, List, [], ◌∷◌, length, take, drop, replicate, ◌==◌, nat_lt, slice_index, slice_range}
+use Rattle.std.specs.Prelude.{ℕ, zero, suc, ◌+◌, ◌*◌, ◌/◌, ◌%◌, Bool, cond, ◌&&◌, List, [], ◌∷◌, length, take, drop, replicate, ◌==◌, nat_lt, slice_index, slice_range}
+use Rattle.std.specs.List.{list_all}
 use Rattle.ir.specs.Bitvectors.{signed}
 use Rattle.records.specs.declared.inst_record.InstRecord.{InstRecord}
 use Rattle.records.specs.declared.record.Kind.{Kind}
@@ -24,13 +25,9 @@ number_from r i j (suc n) = slice_index r (i + j) + 256 * number_from r i (j + 1
 unfoldable pub number : List ℕ → ℕ → ℕ → ℕ
 number r at n = number_from r at 0 n
 
-abbrev pub all_zero : List ℕ → Bool
-all_zero [] = true
-all_zero (b ∷ bs) = b == 0 && all_zero bs
-
 -- are the bytes of a record from one place on and before another zero
 unfoldable pub zeros : List ℕ → ℕ → ℕ → Bool
-zeros r from to = all_zero (slice_range r from to)
+zeros r from to = list_all (λ b. b == 0) (slice_range r from to)
 
 -- byte 0 is 1 for a value and 2 for an instruction
 abbrev pub kind_by : ℕ → Kind

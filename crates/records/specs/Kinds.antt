@@ -1,5 +1,5 @@
 -- Which records are of values and which of instructions. Each kind is numbered by its own records. Assumes nothing.
-use Rattle.std.specs.Prelude.{ℕ, Bool, true, false, List, filter}
+use Rattle.std.specs.Prelude.{ℕ, Bool, true, false, not, ◌||◌, List, filter}
 use Rattle.std.specs.List.{range_with_len}
 use Rattle.records.specs.Fields.{record_at, record_count, kind_of}
 use Rattle.records.specs.declared.record.Kind.{Kind}
@@ -30,3 +30,13 @@ value_places bs = filter (is_value_at bs) (range_with_len 0 (record_count bs))
 
 unfoldable pub inst_places : List ℕ → List ℕ
 inst_places bs = filter (is_inst_at bs) (range_with_len 0 (record_count bs))
+
+-- is the second kind the first
+abbrev pub is_kind : Kind → Kind → Bool
+is_kind Value t = is_value t
+is_kind Inst t = is_inst t
+is_kind Unknown t = not (is_value t || is_inst t)
+
+-- the record numbers of a kind, in order
+abbrev pub places_of : Kind → List ℕ → List ℕ
+places_of t bs = filter (λ k. is_kind t (kind_at bs k)) (range_with_len 0 (record_count bs))

@@ -19,6 +19,14 @@ use Rattle.records.specs.declared.inst_record.InstRecord.{InstRecord}
 use Rattle.records.specs.declared.value_record.ValueRecord.{ValueRecord}
 use Rattle.records.specs.declared.value_record.ValueRecord.TheVariants.{Inst, Param, Alias, Union, Deleted}
 
+-- the number of a value's type, 0 of a deleted value
+abbrev pub type_number : ValueRecord → ℕ
+type_number (Inst ty num inst) = ty
+type_number (Param ty num block) = ty
+type_number (Alias ty x original) = ty
+type_number (Union ty x y) = ty
+type_number (Deleted x) = 0
+
 -- The row of a value. Unknown types and numbers past 16 bits are refused, and what is said here of them is not read.
 abbrev pub value_row : ValueRecord → ValueData
 value_row (Inst ty num inst) = row.Inst (type_or ty) (num % 65536) (record { 0 = inst })

@@ -6,13 +6,10 @@
 
 mod check;
 mod faults;
-mod index;
 pub mod inst_record;
 mod laws;
 mod numbered;
-pub mod places;
 pub mod record;
-mod unused;
 pub mod value_record;
 
 pub use check::{Counts, check_records};

@@ -1,16 +1,123 @@
-ghost use Rattle.std.specs.Prelude.{◌≡◌};
-ghost use Rattle.records.specs.Kinds.{value_places, inst_places};
-ghost use Rattle.records.specs.Listed.{listed};
+// Which records are of values and which of instructions, and what other records say by the numbers of their kind.
+ghost use Rattle.std.specs.Prelude.{◌≡◌, ◌<◌, ◌≤◌, length, nat_lt, MatchResult};
+ghost use Rattle.records.specs.Kinds.{places_of, value_places, inst_places};
 
-use crate::index::Index;
+use crate::check::Counts;
+use crate::record::{Kind, RECORD_LEN, Record};
+use crate::value_record::ValueRecord;
+use arrayvec::ArrayVec;
+use ir::{Cause, OpcodeConstraints};
 
-/// An image with the records of each kind numbered.
-#[derive(Clone, Copy)]
-pub struct Numbered<'a> {
-    bytes: &'a [u8],
-    index: &'a Index,
-    ghost values: { listed index.now.values ≡ value_places bytes.now },
-    ghost insts: { listed index.now.insts ≡ inst_places bytes.now },
+/// How many records of a kind an image may have.
+const MOST_OF_KIND: usize = 1024;
+
+/// The record numbers of one kind, in order.
+type Places = ArrayVec<usize, MOST_OF_KIND>;
+
+/// The record numbers of a kind, unless there are too many.
+fn places_of(bytes: &[u8], kind: Kind) -> Result<Places, Cause>
+    ensures { MatchResult result (λ p. (p.items ≡ places_of kind bytes.now) × (length p.items ≤ 1024)) (λ why. (why ≡ Cause.NotRecords) × (1024 < length (places_of kind bytes.now))) }
+{
+    let mut places = Places::new();
+    for k in (0..bytes.len() / RECORD_LEN).filter(|k| Record::of(bytes, *k).is_of(kind)) {
+        places.try_push(k).map_err(|_| Cause::NotRecords)?;
+    }
+    Ok(places)
 }
 
-mod lookups;
+/// An image with the records of each kind numbered.
+#[derive(Drop)]
+pub struct Numbered<'a> {
+    bytes: &'a [u8],
+    values: Places,
+    insts: Places,
+    ghost values_listed: { values.items ≡ value_places bytes.now },
+    ghost insts_listed: { insts.items ≡ inst_places bytes.now },
+    ghost few_values: { length values.items ≤ 1024 },
+    ghost few_insts: { length insts.items ≤ 1024 },
+}
+
+impl<'a> Numbered<'a> {
+    ghost use Rattle.std.specs.Prelude.{true, false};
+    ghost use Rattle.records.specs.Faults.{is_whole};
+
+    /// The records of an image by their kinds: refused where they are not whole, or too many.
+    pub(crate) fn of(bytes: &'a [u8]) -> Result<Numbered<'a>, Cause>
+        ensures { MatchResult result (λ n. (n.bytes.now ≡ bytes.now) × (is_whole bytes.now ≡ true)) (λ why. (why ≡ Cause.NotRecords) × (is_whole bytes.now ≡ false)) }
+    {
+        if bytes.len() % RECORD_LEN != 0 {
+            return Err(Cause::NotRecords);
+        }
+        let values = places_of(bytes, Kind::Value)?;
+        let insts = places_of(bytes, Kind::Inst)?;
+        Ok(Numbered {
+            bytes,
+            values,
+            insts,
+        })
+    }
+}
+
+impl Numbered<'_> {
+    ghost use Rattle.std.specs.Prelude.{slice_get};
+    ghost use Rattle.records.specs.Faults.{asked_at, counts_of, live_at, value_at};
+    ghost use Rattle.records.specs.Fields.{record_at, record_count};
+
+    /// How many records there are.
+    pub(crate) fn num_records(&self) -> usize
+        ensures { result ≡ record_count self.now.bytes.now }
+    {
+        self.bytes.len() / RECORD_LEN
+    }
+
+    /// How many records of each kind there are.
+    pub(crate) fn counts(&self) -> Counts
+        ensures { result ≡ counts_of self.now.bytes.now }
+    {
+        Counts {
+            values: self.values.len() as u32,
+            insts: self.insts.len() as u32,
+        }
+    }
+
+    /// Record `k`.
+    pub(crate) fn record(&self, k: usize) -> Record<'_>
+        ensures { result.bytes.now ≡ record_at self.now.bytes.now k }
+    {
+        Record::of(self.bytes, k)
+    }
+
+    /// The number of an instruction's record, if there is one.
+    pub(crate) fn inst_place(&self, i: u32) -> Option<usize>
+        ensures { result ≡ slice_get (inst_places self.now.bytes.now) i }
+    {
+        self.insts.get(i as usize).copied()
+    }
+
+    /// The record of a value, a deleted one where there is none.
+    pub(crate) fn value(&self, v: u32) -> ValueRecord
+        ensures { result ≡ value_at self.now.bytes.now v }
+    {
+        self.values.get(v as usize).copied().map_or(
+            ValueRecord::Deleted { x: 0 },
+            |k| Record::of(self.bytes, k).value(),
+        )
+    }
+
+    /// Whether a value exists and is not deleted.
+    pub(crate) fn is_live(&self, v: u32) -> bool
+        ensures { result ≡ live_at self.now.bytes.now v }
+    {
+        !self.value(v).is_deleted()
+    }
+
+    /// What the opcode of an instruction asks, that of an opaque one where there is none.
+    pub(crate) fn asked(&self, i: u32) -> Option<OpcodeConstraints>
+        ensures { result ≡ asked_at self.now.bytes.now i }
+    {
+        self.inst_place(i).map_or(
+            Some(OpcodeConstraints::Opaque),
+            |k| Record::of(self.bytes, k).inst().constraints(),
+        )
+    }
+}

@@ -1,12 +1,13 @@
 ghost use Rattle.std.specs.Prelude.{◌≡◌};
+ghost use Rattle.records.specs.Faults.{is_deleted, type_known, value_fields_fit};
 ghost use Rattle.records.specs.Fields.{unpacked};
-ghost use Rattle.records.specs.RowsOf.{value_row};
+ghost use Rattle.records.specs.RowsOf.{type_number, value_row};
 
 use ir::{Block, Inst, Type, Value};
 use rows::ValueData;
 
 /// A value record, its numbers as they stand.
-#[derive(Clone, Copy)]
+#[derive(Clone, Copy, PartialEq, Eq, Debug)]
 pub enum ValueRecord {
     /// tag 0: result `num` of an instruction
     Inst { ty: u16, num: u32, inst: u32 },
@@ -36,12 +37,47 @@ impl ValueRecord {
                 num: x,
                 block: y,
             },
-            2 => if ty == 0 && y == u32::MAX {
-                ValueRecord::Deleted { x }
-            } else {
-                ValueRecord::Alias { ty, x, original: y }
-            },
+            2 if ty == 0 && y == u32::MAX => ValueRecord::Deleted { x },
+            2 => ValueRecord::Alias { ty, x, original: y },
             _ => ValueRecord::Union { ty, x, y },
+        }
+    }
+
+    /// Whether the record is that of a deleted value.
+    pub fn is_deleted(self) -> bool
+        ensures { result ≡ is_deleted self }
+    {
+        matches!(self, ValueRecord::Deleted { .. })
+    }
+
+    /// The number of the type, 0 of a deleted value.
+    fn type_number(self) -> u16
+        ensures { result ≡ type_number self }
+    {
+        match self {
+            ValueRecord::Inst { ty, .. }
+            | ValueRecord::Param { ty, .. }
+            | ValueRecord::Alias { ty, .. }
+            | ValueRecord::Union { ty, .. } => ty,
+            ValueRecord::Deleted { .. } => 0,
+        }
+    }
+
+    /// Whether the type is that of a live value, or the value is deleted.
+    pub(crate) fn type_known(self) -> bool
+        ensures { result ≡ type_known self }
+    {
+        self.is_deleted() || Type::try_from(self.type_number()).is_ok()
+    }
+
+    /// Whether an alias and a deleted value leave x zero, and the block of a parameter is below 64.
+    pub(crate) fn fields_fit(self) -> bool
+        ensures { result ≡ value_fields_fit self }
+    {
+        match self {
+            ValueRecord::Inst { .. } | ValueRecord::Union { .. } => true,
+            ValueRecord::Param { block, .. } => block < 64,
+            ValueRecord::Alias { x, .. } | ValueRecord::Deleted { x } => x == 0,
         }
     }
 
@@ -50,23 +86,24 @@ impl ValueRecord {
     pub fn row(self) -> ValueData
         ensures { result ≡ value_row self }
     {
+        let ty = Type::from_bits_or_invalid(self.type_number());
         match self {
-            ValueRecord::Inst { ty, num, inst } => ValueData::Inst {
-                ty: Type::from_bits_or_invalid(ty),
+            ValueRecord::Inst { num, inst, .. } => ValueData::Inst {
+                ty,
                 num: (num % 65_536) as u16,
                 inst: Inst(inst),
             },
-            ValueRecord::Param { ty, num, block } => ValueData::Param {
-                ty: Type::from_bits_or_invalid(ty),
+            ValueRecord::Param { num, block, .. } => ValueData::Param {
+                ty,
                 num: (num % 65_536) as u16,
                 block: Block(block),
             },
-            ValueRecord::Alias { ty, original, .. } => ValueData::Alias {
-                ty: Type::from_bits_or_invalid(ty),
+            ValueRecord::Alias { original, .. } => ValueData::Alias {
+                ty,
                 original: Value(original),
             },
-            ValueRecord::Union { ty, x, y } => ValueData::Union {
-                ty: Type::from_bits_or_invalid(ty),
+            ValueRecord::Union { x, y, .. } => ValueData::Union {
+                ty,
                 x: Value(x),
                 y: Value(y),
             },

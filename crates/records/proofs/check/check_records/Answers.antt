@@ -1,49 +1,36 @@
-use Rattle.std.proofs.Common.{◌≡◌, ℕ, ◌%◌, ◌≤◌, true, List, length, Ok, Err, sym, ap, ◌∙◌, subst, ap₂, arith}
+use Rattle.std.proofs.Common.{◌≡◌, ℕ, true, List, Ok, Err, Option, sym, ap, ◌∙◌}
 use Rattle.std.proofs.lemmas.Result.{err_from_is_err_and}
-use Rattle.ir.specs.Refusals.{answer_unless, first_fault}
+use Rattle.ir.specs.Refusals.{answer_unless, because, first_fault}
+use Rattle.ir.specs.declared.refusal.Refusal.{Refusal}
 use Rattle.ir.proofs.Faults.{refused_by, not_refused}
-use Rattle.records.specs.Faults.{counts_of, is_whole, record_fault}
+use Rattle.records.specs.Faults.{counts_of, is_whole, record_fault, records_refusal}
 use Rattle.records.specs.Fields.{record_count}
-use Rattle.records.specs.Kinds.{value_places, inst_places}
-use Rattle.records.specs.Listed.{listed}
-use Rattle.records.specs.declared.index.Index.{Index}
-use Rattle.records.proofs.Clean.{not_whole, whole, torn, too_many, is_whole_lem}
-use Rattle.records.proofs.Indexing.{listed_few}
+use Rattle.records.proofs.Clean.{not_whole, whole}
 use Rattle.records.proofs.check.check_records.Goals as goal
 
--- an image that has an index has not too many records
-indexed_whole : (bs : List ℕ) (i : Index) → length bs % 40 ≡ 0 → (listed i.values ≡ value_places bs) × (listed i.insts ≡ inst_places bs) → is_whole bs ≡ true
-indexed_whole bs i e same =
-    is_whole_lem bs e (subst (λ (l : List ℕ). length l ≤ 1024) same.0 (listed_few i.values)) (subst (λ (l : List ℕ). length l ≤ 1024) same.1 (listed_few i.insts))
+fault_in : List ℕ → Option Refusal
+fault_in bs = first_fault (record_fault bs) 0 (record_count bs)
 
-pub returns-then-bytes-ne0 : goal.returns-then-bytes-ne0
-returns-then-bytes-ne0 c =
-    let bs = c.args.bytes.now in
-    sym (ap (λ o. answer_unless o (counts_of bs)) (not_whole bs (torn bs c.if-bytes-ne0.true)))
+-- whole records, known by an image of the same bytes, are refused by the first fault in them
+refusal_of : (bs image : List ℕ) → (image ≡ bs) × (is_whole bs ≡ true) → (o : Option Refusal) → first_fault (record_fault image) 0 (record_count image) ≡ o → o ≡ records_refusal bs
+unfolding fault_in
+refusal_of bs image g o e = sym (whole bs g.1 ∙ sym (ap fault_in g.0) ∙ e)
 
-pub returns-in_default : goal.returns-in_default
-returns-in_default c =
-    let bs = c.args.bytes.now in
-    sym (ap (λ o. answer_unless o (counts_of bs)) (not_whole bs (too_many bs c.in_default.ensures)))
-
-pub returns-in_err-check_indexed : goal.returns-in_err-check_indexed
-returns-in_err-check_indexed c =
+pub returns-in_err-image : goal.returns-in_err-image
+returns-in_err-image c =
     let bs = c.args.bytes.now in
     let p = err_from_is_err_and c.from_residual.result c.from_residual.ensures.1 in
-    let told : Err p.0 ≡ answer_unless (first_fault (record_fault bs) 0 (record_count bs)) (tt {0}) = ap Err p.2 ∙ c.in_err-check_indexed.ensures in
-    let why = refused_by (first_fault (record_fault bs) 0 (record_count bs)) (tt {0}) p.0 told in
-    p.1 ∙ sym (ap (λ o. answer_unless o (counts_of bs)) (whole bs (indexed_whole bs c.in-Some.index c.if-bytes-ne0.false c.in-Some.ensures) ∙ why))
+    let refused = c.in_err-image.ensures in
+    p.1 ∙ ap Err (p.2 ∙ ap because refused.0) ∙ sym (ap (λ o. answer_unless o (counts_of bs)) (not_whole bs refused.1))
 
-pub overflow_cast-result : goal.overflow_cast-result
-overflow_cast-result c = omega (arith, listed_few c.in-Some.index.values)
-
-pub overflow_cast-result-2 : goal.overflow_cast-result-2
-overflow_cast-result-2 c = omega (arith, listed_few c.in-Some.index.insts)
+pub returns-in_err-check_each : goal.returns-in_err-check_each
+returns-in_err-check_each c =
+    let bs = c.args.bytes.now in
+    let p = err_from_is_err_and c.from_residual-in_err-check_each.result c.from_residual-in_err-check_each.ensures.1 in
+    p.1 ∙ ap Err p.2 ∙ ap (λ o. answer_unless o (counts_of bs)) (refusal_of bs _ c.in_ok-image.ensures _ (refused_by _ tt c.in_err-check_each.field-0.0 c.in_err-check_each.ensures))
 
 pub returns : goal.returns
 returns c =
     let bs = c.args.bytes.now in
-    let same = c.in-Some.ensures in
-    let none = not_refused (first_fault (record_fault bs) 0 (record_count bs)) tt tt c.in_ok-check_indexed.ensures in
-    ap₂ (λ (v i : ℕ). Ok (record { values = v; insts = i })) (c.len.ensures ∙ ap (λ (l : List ℕ). length l) same.0) (c.len-2.ensures ∙ ap (λ (l : List ℕ). length l) same.1)
-    ∙ sym (ap (λ o. answer_unless o (counts_of bs)) (whole bs (indexed_whole bs c.in-Some.index c.if-bytes-ne0.false same) ∙ none))
+    ap Ok (c.counts.ensures ∙ ap counts_of c.in_ok-image.ensures.0)
+    ∙ ap (λ o. answer_unless o (counts_of bs)) (refusal_of bs _ c.in_ok-image.ensures _ (not_refused _ tt tt c.in_ok-check_each.ensures))

@@ -1,15 +1,18 @@
-use Rattle.std.proofs.Common.{◌≡◌, ◌+◌, ◌-◌, ◌*◌, ◌/◌, length, take, drop, sym, ap, ◌∙◌, arith}
-use Rattle.std.proofs.lemmas.Bool.{cond-true, cond-false, lt-ltb, le-ltb}
+use Rattle.std.proofs.Common.{◌/◌, length, get_or, replicate, ap, ◌∙◌, arith, sym, inl, inr}
+use Rattle.std.proofs.lemmas.Bool.{lt-ltb, le-ltb, cases_lt, cond-true, cond-false}
 use Rattle.records.specs.Fields.{record_at}
+use Rattle.records.proofs.Lookups.{piece_at, no_piece, now-unwrap_or}
 use Rattle.records.proofs.record.Record.of.Goals as goal
-
-pub returns-then-k-image : goal.returns-then-k-image
-unfolding record_at
-returns-then-k-image c = sym (cond-false _ _ _ (le-ltb c.args.k (length c.args.image.now / 40) c.if-k-image.true))
 
 pub returns : goal.returns
 unfolding record_at
 returns c =
-    let at = 40 * c.args.k in
-    let n : at + 40 - at ≡ 40 = omega arith in
-    ap (λ m. take m (drop at c.args.image.now)) n ∙ sym (cond-true _ _ _ (lt-ltb c.args.k (length c.args.image.now / 40) c.if-k-image.false))
+    let bs = c.args.image.now in
+    let k = c.args.k in
+    let n = length bs / 40 in
+    ap (λ b. b.now) c.unwrap_or.ensures ∙ now-unwrap_or c.get.result _ ∙ c.get.ensures.lookup.4 (omega arith) (replicate 40 0)
+    ∙ ap (λ l. get_or l k (replicate 40 0)) c.as_chunks.ensures.front
+    ∙ elim (cases_lt k n) [
+      | inl l ↦ piece_at 40 n k bs (replicate 40 0) l ∙ sym (cond-true _ _ _ (lt-ltb k n l))
+      | inr l ↦ no_piece 40 n k bs (replicate 40 0) l ∙ sym (cond-false _ _ _ (le-ltb k n l))
+    ]
