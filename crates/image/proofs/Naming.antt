@@ -1,27 +1,29 @@
 -- How many blocks rows name. Assumes nothing.
-use Rattle.std.proofs.Common.{◌≡◌, ℕ, zero, suc, ◌+◌, ◌<◌, ◌≤◌, max, List, [], ◌∷◌, ◌++◌, map, length, get_or, take, refl, ap, ◌∙◌, arith}
-use Rattle.std.proofs.lemmas.List.{get_or-map, length-map, map-append, take_more}
+use Rattle.std.proofs.Common.{◌≡◌, ℕ, max, List, [], ◌∷◌, ◌++◌, map, length, get_or, refl, ap, ◌∙◌, arith}
+use Rattle.std.proofs.lemmas.List.{get_or-map, length-map}
+use Rattle.std.proofs.lemmas.List.FromFn.{fill_by_all}
+use Rattle.std.specs.List.{fold, range_with_len, reduce}
+use Rattle.std.specs.Option.{unwrap_or}
 use Rattle.records.specs.RowsOf.{blocks_for, blocks_in, most}
 use Rattle.records.specs.declared.check.Counts.{Counts}
 use Rattle.image.specs.Held.{rows_in}
 
-most_push : (ns : List ℕ) (n : ℕ) → most (ns ++ n ∷ []) ≡ max n (most ns)
-most_push [] n = refl
-most_push (m ∷ ns) n = ap (max m) (most_push ns n) ∙ omega arith
+fold_max : (ns : List ℕ) (m : ℕ) → fold max m ns ≡ max m (most ns)
+fold_max [] m = omega arith
+fold_max (n ∷ ns) m = fold_max ns (max m n) ∙ omega arith
 
-most_at : (ns : List ℕ) (k : ℕ) → k < length ns → get_or ns k 0 ≤ most ns
-most_at [] k l = absurd (omega arith)
-most_at (n ∷ ns) zero l = omega arith
-most_at (n ∷ ns) (suc k) l = omega (arith, most_at ns k (omega arith))
+pub most_reduce : (ns : List ℕ) → unwrap_or (reduce max ns) 0 ≡ most ns
+most_reduce [] = refl
+most_reduce (n ∷ ns) = fold_max ns n
 
-module _ {X : Type 0} (f : X → ℕ) (xs : List X) (k : ℕ) (d : X) (l : k < length xs) where
-  -- one row more
-  pub most_more : most (map f (take (k + 1) xs)) ≡ max (f (get_or xs k d)) (most (map f (take k xs)))
-  most_more = ap (λ ys. most (map f ys)) (take_more xs k d l) ∙ ap most (map-append f (take k xs) (get_or xs k d ∷ [])) ∙ most_push (map f (take k xs)) (f (get_or xs k d))
+pub most_append : (ms ns : List ℕ) → most (ms ++ ns) ≡ max (most ms) (most ns)
+most_append [] ns = omega arith
+most_append (m ∷ ms) ns = ap (max m) (most_append ms ns) ∙ omega arith
 
-  -- each is at most the most
-  pub at_most : f (get_or xs k d) ≤ most (map f xs)
-  at_most = omega (arith, get_or-map f xs k d 0 l, most_at (map f xs) k (omega (arith, length-map xs f)))
+-- what f makes of each row, by the rows' numbers
+pub by_number : {X : Type 0} (f : X → ℕ) (xs : List X) (n : ℕ) (d : X) → length xs ≡ n → map f xs ≡ map (λ k. f (get_or xs k d)) (range_with_len 0 n)
+by_number f xs n d e =
+    fill_by_all (λ k. f (get_or xs k d)) (map f xs) n 0 (omega (arith, length-map xs f)) (λ k l. get_or-map f xs k d 0 (omega arith))
 
 pub blocks_are : (bs : List ℕ) (n : Counts) → (rows_in bs n).blocks ≡ max (most (map blocks_in (rows_in bs n).values)) (most (map blocks_for (rows_in bs n).insts))
 unfolding rows_in

@@ -1,3 +1,4 @@
+pub mod Checked
 pub mod Clean
 pub mod Indexing
 pub mod Lookups

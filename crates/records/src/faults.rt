@@ -1,21 +1,15 @@
 // What stands against a record.
-ghost use Rattle.std.specs.Prelude.{◌≡◌, not, [], ◌∷◌};
+ghost use Rattle.std.specs.Prelude.{◌≡◌};
 ghost use Rattle.ir.specs.Refusals.{first};
 ghost use Rattle.records.specs.Faults.{args_live, behind_inst, checked, inst_checks, inst_shape, is_instruction, names_live, names_record, number_fits, record_fault, results_named, value_checks, value_shape};
 ghost use Rattle.records.specs.Fields.{record_at};
 
+use crate::check::ensure;
 use crate::inst_record::InstRecord;
 use crate::numbered::Numbered;
 use crate::record::{Kind, Record};
 use crate::value_record::ValueRecord;
 use ir::{Cause, OpcodeConstraints};
-
-/// Passes where something holds, and is refused where it does not.
-fn ensure(holds: bool, cause: Cause) -> Result<(), Cause>
-    ensures { result ≡ checked (first ((not holds, cause) ∷ [])) }
-{
-    if holds { Ok(()) } else { Err(cause) }
-}
 
 /// A record to be judged, by its number, in its image.
 #[derive(Clone, Copy)]

@@ -12,7 +12,7 @@ mod numbered;
 pub mod record;
 pub mod value_record;
 
-pub use check::{Counts, check_records};
+pub use check::{Counts, check_records, ensure};
 pub use inst_record::InstRecord;
 pub use laws::records_stand;
 pub use record::{Kind, Record};

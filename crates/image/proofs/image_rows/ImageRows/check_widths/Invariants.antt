@@ -4,5 +4,6 @@ use Rattle.image.specs.Held.{rows_in}
 use Rattle.image.specs.Verdict.{row_fault, widths_refusal}
 use Rattle.image.proofs.image_rows.ImageRows.check_widths.Given as goal
 
-abbrev pub invariant-loop-v : goal.invariant-loop-v
-invariant-loop-v l = widths_refusal (rows_in l.self.bytes.now l.self.counts) ≡ first_fault (row_fault (rows_in l.self.bytes.now l.self.counts)) l.v (l.self.counts.values - l.v)
+abbrev pub invariant-loop-place : goal.invariant-loop-place
+invariant-loop-place l =
+    let p = rows_in l.self.bytes.now l.self.counts in widths_refusal p ≡ first_fault (row_fault p) l.place-counter (l.self.counts.values - l.place-counter)
