@@ -27,6 +27,7 @@ const NO_INST: InstructionData = InstructionData {
 impl ReadRows for ImageRows<'_> {
     ghost rows = { λ image. rows_in image.bytes.now image.counts };
 
+    #[tactic(auto, using(crate::proofs::Held::value_in, crate::proofs::Held::value_past))]
     fn value_data(&self, v: Value) -> ValueData {
         if v.0 >= self.counts.values {
             return ValueData::Deleted;
@@ -34,6 +35,7 @@ impl ReadRows for ImageRows<'_> {
         Record::of(self.bytes, v.0 as usize).value().row()
     }
 
+    #[tactic(auto, using(crate::proofs::Held::inst_in, crate::proofs::Held::inst_past))]
     fn inst_data(&self, inst: Inst) -> InstructionData {
         if inst.0 >= self.counts.insts {
             return NO_INST;

@@ -1,4 +1,4 @@
--- What a look-up in a list says. Assumes nothing.
+-- What look-ups, tests of a few numbers, bytes and codes say. Assumes nothing.
 use Rattle.std.proofs.Common.{◌≡◌, ℕ, zero, suc, ◌+◌, ◌-◌, ◌*◌, ◌<◌, ◌≤◌, Bool, true, false, ◌&&◌, ◌||◌, eqb, ltb, List, [], ◌∷◌, map, length, get_or, take, drop, Some, None, Option, Bor, MatchOption, sym, refl, ap, ◌∙◌, arith, mul-zero, mul-suc, add_comm}
 use Rattle.std.proofs.lemmas.Bool.{le-ltb, ne_eqb}
 use Rattle.std.proofs.lemmas.List.{get_or-drop, get_or-take, drop-drop}
@@ -7,6 +7,11 @@ use Rattle.std.specs.Option.{option_map, unwrap_or}
 use Rattle.std.specs.Result.{result_unwrap_or}
 use Rattle.std.specs.Simd.{first_chunks}
 use Rattle.ir.specs.Codes.{known}
+use denote.Enum.Bare.{sameb}
+use Rattle.records.specs.Kinds.{is_kind}
+use Rattle.records.specs.contracts.record.Kind.{the_type}
+use Rattle.records.specs.declared.record.Kind.{Kind}
+use Rattle.records.specs.declared.record.Kind.TheVariants.{Value, Inst, Unknown}
 
 -- piece k of the first m pieces of n elements
 pub piece_at : {X : Type 0} (n m k : ℕ) (xs : List X) (d : List X) → k < m → get_or (first_chunks n m xs) k d ≡ take n (drop (n * k) xs)
@@ -20,9 +25,9 @@ no_piece n (suc m) zero xs d l = absurd (omega arith)
 no_piece n (suc m) (suc k) xs d l = no_piece n m k (drop n xs) d (omega arith)
 
 -- what stands behind a reference that may be missing
-pub now-unwrap_or : {X : Type 0} (o : Option (Bor X)) (b : Bor X) → (unwrap_or o b).now ≡ unwrap_or (option_map (λ x. x.now) o) b.now
-now-unwrap_or None b = refl
-now-unwrap_or (Some x) b = refl
+pub now_unwrap_or : {X : Type 0} (o : Option (Bor X)) (b : Bor X) → (unwrap_or o b).now ≡ unwrap_or (option_map (λ x. x.now) o) b.now
+now_unwrap_or None b = refl
+now_unwrap_or (Some x) b = refl
 
 -- what is read by the number at a place of a list, d where there is none
 pub read_by : {A : Type 0} (f : ℕ → A) (ks : List ℕ) (i : ℕ) (d r : A) (Q : ℕ → Type 0) (o : Option ℕ) → o ≡ slice_get ks i → MatchOption o (r ≡ d) Q → ((k : ℕ) → Q k → r ≡ f k) → r ≡ get_or (map f ks) i d
@@ -75,3 +80,15 @@ byte_in r at n bs e i l = ap (λ l. get_or l i 0) e ∙ get_or-take (at + n - at
 pub known_or : {A : Type 0} (o : Option A) (d : A) → result_unwrap_or (known o) d ≡ unwrap_or o d
 known_or None d = refl
 known_or (Some x) d = refl
+
+-- whether two kinds are one
+pub same_kind : (a b : Kind) → sameb the_type a b ≡ is_kind b a
+same_kind Value Value = refl
+same_kind Value Inst = refl
+same_kind Value Unknown = refl
+same_kind Inst Value = refl
+same_kind Inst Inst = refl
+same_kind Inst Unknown = refl
+same_kind Unknown Value = refl
+same_kind Unknown Inst = refl
+same_kind Unknown Unknown = refl

@@ -1,5 +1,5 @@
 -- Records that nothing stands against are in order. Assumes nothing.
-use Rattle.std.proofs.Common.{◌≡◌, ℕ, zero, suc, ◌+◌, ◌-◌, ◌<◌, ◌≤◌, Bool, true, false, cond, not, ◌||◌, ◌⊎◌, List, [], ◌∷◌, ◌++◌, length, get_or, Some, None, filter, Option, sym, refl, ap, ◌∙◌, inl, inr, add-one, arith}
+use Rattle.std.proofs.Common.{◌≡◌, ℕ, zero, suc, ◌+◌, ◌-◌, ◌<◌, ◌≤◌, Bool, true, false, cond, not, leb, ◌||◌, ◌⊎◌, List, [], ◌∷◌, ◌++◌, length, get_or, Some, None, filter, Option, sym, refl, ap, ◌∙◌, inl, inr, add-one, arith}
 use Rattle.std.specs.List.{range_with_len}
 use Rattle.std.proofs.lemmas.List.FromFn.{length-range_with_len}
 use Rattle.std.proofs.lemmas.Bool.{and_parts, cases_Bool, false≢true, leb-true, ltb-false, not-true}
@@ -115,7 +115,8 @@ clean_in_order bs none =
     let c = cut_records bs none in
     let v : length (value_places bs) ≡ c.at = ap length c.front ∙ length-range_with_len 0 c.at in
     let i : length (inst_places bs) ≡ record_count bs - c.at = ap length c.back ∙ length-range_with_len c.at (record_count bs - c.at) in
-    let few = and_parts _ _ (and_parts _ _ (clean_whole bs none)).1 in
+    let few : (leb (length (value_places bs)) 1024 ≡ true) × (leb (length (inst_places bs)) 1024 ≡ true) =
+    and_parts _ _ (and_parts _ _ (clean_whole bs none)).1 in
     record {
       values = c.front ∙ ap (range_with_len 0) (sym v);
       insts = c.back ∙ ap (λ n. range_with_len n (record_count bs - c.at)) (sym v) ∙ ap (range_with_len (length (value_places bs))) (sym i);

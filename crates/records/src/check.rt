@@ -36,6 +36,7 @@ fn check_each(image: &Numbered) -> Result<(), Refusal>
 
 /// Looks at each record of an image by itself and at what it names: how many records of each kind there are, or the first
 /// refusal.
+#[tactic(auto, using(crate::proofs::Clean::not_whole, crate::proofs::Clean::whole))]
 pub fn check_records(bytes: &[u8]) -> Result<Counts, Refusal>
     ensures { result ≡ answer_unless (records_refusal bytes.now) (counts_of bytes.now) }
 {

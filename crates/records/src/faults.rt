@@ -80,7 +80,7 @@ impl Judged<'_> {
     {
         inst.results
             .iter()
-            .take(inst.result_count as usize)
+            .take(usize::from(inst.result_count))
             .zip(0..2)
             .all(|(v, place)| self.is_named_by(place, self.image.value(*v)))
     }
@@ -162,7 +162,7 @@ impl Numbered<'_> {
     {
         inst.args
             .iter()
-            .take(inst.arg_count as usize)
+            .take(usize::from(inst.arg_count))
             .all(|a| self.is_live(*a))
     }
 }

@@ -90,7 +90,7 @@ impl InstRecord {
     {
         self.args
             .iter()
-            .skip(self.arg_count as usize)
+            .skip(usize::from(self.arg_count))
             .all(|a| *a == 0)
     }
 
@@ -100,7 +100,7 @@ impl InstRecord {
     {
         self.results
             .iter()
-            .skip(self.result_count as usize)
+            .skip(usize::from(self.result_count))
             .all(|v| *v == 0)
     }
 
@@ -114,7 +114,7 @@ impl InstRecord {
             } else {
                 1
             };
-            asked.arg_count_fits(self.arg_count as usize) && self.result_count <= most
+            asked.arg_count_fits(usize::from(self.arg_count)) && self.result_count <= most
         })
     }
 }

@@ -27,7 +27,7 @@ fn places_of(bytes: &[u8], kind: Kind) -> Result<Places, Cause>
 
 /// An image with the records of each kind numbered.
 #[derive(Drop)]
-pub struct Numbered<'a> {
+pub(crate) struct Numbered<'a> {
     bytes: &'a [u8],
     values: Places,
     insts: Places,
@@ -42,6 +42,7 @@ impl<'a> Numbered<'a> {
     ghost use Rattle.records.specs.Faults.{is_whole};
 
     /// The records of an image by their kinds: refused where they are not whole, or too many.
+    #[tactic(auto, using(crate::proofs::Clean::too_many), unfolding(crate::specs::Kinds::value_places, crate::specs::Kinds::inst_places))]
     pub(crate) fn of(bytes: &'a [u8]) -> Result<Numbered<'a>, Cause>
         ensures { MatchResult result (λ n. (n.bytes.now ≡ bytes.now) × (is_whole bytes.now ≡ true)) (λ why. (why ≡ Cause.NotRecords) × (is_whole bytes.now ≡ false)) }
     {
@@ -95,6 +96,7 @@ impl Numbered<'_> {
     }
 
     /// The record of a value, a deleted one where there is none.
+    #[tactic(auto, using(crate::proofs::Lookups::read_by))]
     pub(crate) fn value(&self, v: u32) -> ValueRecord
         ensures { result ≡ value_at self.now.bytes.now v }
     {
@@ -112,6 +114,7 @@ impl Numbered<'_> {
     }
 
     /// What the opcode of an instruction asks, that of an opaque one where there is none.
+    #[tactic(auto, using(crate::proofs::Lookups::read_by))]
     pub(crate) fn asked(&self, i: u32) -> Option<OpcodeConstraints>
         ensures { result ≡ asked_at self.now.bytes.now i }
     {

@@ -1,5 +1,5 @@
 ghost use Rattle.std.specs.Prelude.{◌≡◌, ◌+◌, ◌≤◌, slice_range};
-ghost use Rattle.records.specs.Fields.{record_at, number, zeros, kind_of, value_record, inst_record};
+ghost use Rattle.records.specs.Fields.{record_at, number, zeros, kind_by, kind_of, value_record, inst_record};
 ghost use Rattle.records.specs.Kinds.{is_kind};
 
 use crate::inst_record::InstRecord;
@@ -23,6 +23,18 @@ pub enum Kind {
     Unknown,
 }
 
+impl From<u8> for Kind {
+    ghost from_gives = { λ byte kind. kind ≡ kind_by byte };
+
+    fn from(byte: u8) -> Kind {
+        match byte {
+            1 => Kind::Value,
+            2 => Kind::Inst,
+            _ => Kind::Unknown,
+        }
+    }
+}
+
 /// One record of an image.
 #[derive(Clone, Copy)]
 pub struct Record<'a> {
@@ -31,6 +43,7 @@ pub struct Record<'a> {
 
 impl<'a> Record<'a> {
     /// Record `k` of an image, a blank one past its end.
+    #[tactic(auto, using(crate::proofs::Lookups::piece_at, crate::proofs::Lookups::no_piece, crate::proofs::Lookups::now_unwrap_or), unfolding(crate::specs::Fields::record_at))]
     pub fn of(image: &'a [u8], k: usize) -> Record<'a>
         ensures { result.bytes.now ≡ record_at image.now k }
     {
@@ -75,14 +88,11 @@ impl Record<'_> {
     pub fn kind(self) -> Kind
         ensures { result ≡ kind_of self.entry.bytes.now }
     {
-        match self.bytes[0] {
-            1 => Kind::Value,
-            2 => Kind::Inst,
-            _ => Kind::Unknown,
-        }
+        Kind::from(self.bytes[0])
     }
 
     /// Whether the record is of a kind.
+    #[tactic(auto, using(crate::proofs::Lookups::same_kind))]
     pub(crate) fn is_of(self, kind: Kind) -> bool
         ensures { result ≡ is_kind kind (kind_of self.entry.bytes.now) }
     {

@@ -15,16 +15,24 @@ at_err (Err y) e h = h
 
 pub returns : goal.returns
 returns c =
-    let bs = c.args.bytes.now in
-    let n = length bs / 40 in
-    let end = YieldsList-end (YieldsList-at c.into_iter-k-iterator.ensures.into_iter_gives (YieldsList-from_filter {s = c.filter-k-items.result} _ (λ k. is_kind c.args.kind (kind_at bs k)) (YieldsList-from_range {s = c.filter-k-items.result.iter} 0 n n c.filter-k-items.ensures.source (omega arith)) c.filter-k-items.ensures.closure (λ x b q k. search (rules, tests)))) c.loop-k.yielded _ c.loop-k.yielded_by c.next.result _ c.in-None.is c.next.ensures.steps in
+    let n = length c.args.bytes.now / 40 in
+    let numbers = YieldsList-from_range {s = c.filter-k-items.result.iter} 0 n n c.filter-k-items.ensures.source (omega arith) in
+    let end =
+    YieldsList-end (YieldsList-at c.into_iter-k-iterator.ensures.into_iter_gives
+    (YieldsList-from_filter {s = c.filter-k-items.result} _ (λ k. is_kind c.args.kind (kind_at c.args.bytes.now k)) numbers c.filter-k-items.ensures.closure
+    (λ x b q k. search (rules, tests))))
+    c.loop-k.yielded _ c.loop-k.yielded_by c.next.result _ c.in-None.is c.next.ensures.steps in
     (c.loop-k.invariant.0 ∙ sym (map-id c.loop-k.yielded) ∙ end.0, omega (arith, ap (λ l. length l) c.loop-k.invariant.0))
 
 pub returns-in_err-map_err : goal.returns-in_err-map_err
 returns-in_err-map_err c =
-    let bs = c.args.bytes.now in
-    let n = length bs / 40 in
-    let turn = YieldsList-turn (YieldsList-at c.into_iter-k-iterator.ensures.into_iter_gives (YieldsList-from_filter {s = c.filter-k-items.result} _ (λ k. is_kind c.args.kind (kind_at bs k)) (YieldsList-from_range {s = c.filter-k-items.result.iter} 0 n n c.filter-k-items.ensures.source (omega arith)) c.filter-k-items.ensures.closure (λ x b q k. search (rules, tests)))) c.loop-k.yielded _ c.loop-k.yielded_by c.next.result _ c.in-Some.k c.in-Some.is c.next.ensures.steps in
+    let n = length c.args.bytes.now / 40 in
+    let numbers = YieldsList-from_range {s = c.filter-k-items.result.iter} 0 n n c.filter-k-items.ensures.source (omega arith) in
+    let turn =
+    YieldsList-turn (YieldsList-at c.into_iter-k-iterator.ensures.into_iter_gives
+    (YieldsList-from_filter {s = c.filter-k-items.result} _ (λ k. is_kind c.args.kind (kind_at c.args.bytes.now k)) numbers c.filter-k-items.ensures.closure
+    (λ x b q k. search (rules, tests))))
+    c.loop-k.yielded _ c.loop-k.yielded_by c.next.result _ c.in-Some.k c.in-Some.is c.next.ensures.steps in
     let p = err_from_is_err_and c.from_residual.result c.from_residual.ensures.1 in
     let full = at_err c.try_push.result (sym c.map_err.ensures.variant ∙ ap (is_ok {T = Unit {0}} {E = Cause}) c.in_err-map_err.was) c.try_push.ensures.full in
     rw (p.1, p.2) (search rules, omega (arith, turn.0, full, ap (λ l. length l) c.loop-k.invariant.0))
