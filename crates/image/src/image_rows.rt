@@ -6,7 +6,7 @@ use records::{Counts, Record};
 use rows::{InstructionData, ReadRows, Results, ValueData};
 
 /// The rows in the records of an image: value records first, then instruction records, so many of each.
-#[derive(Clone, Copy)]
+#[derive(Clone, Copy, PartialEq, Eq, Debug)]
 pub struct ImageRows<'a> {
     pub(crate) bytes: &'a [u8],
     pub(crate) counts: Counts,

@@ -49,6 +49,7 @@ impl ImageRows<'_> {
     pub(crate) fn check_widths(self) -> Result<(), Refusal>
         ensures { result ≡ answer_unless (widths_refusal (rows_in self.entry.bytes.now self.entry.counts)) tt }
     {
+        // A value goes by its number here, which is the refusal's place: nothing is indexed.
         for place in 0..self.counts.values {
             self.check_value(Value(place))
                 .map_err(|cause| Refusal { cause, place })?;

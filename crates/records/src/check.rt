@@ -24,6 +24,7 @@ pub fn ensure(holds: bool, cause: Cause) -> Result<(), Cause>
 fn check_each(image: &Numbered) -> Result<(), Refusal>
     ensures { result ≡ answer_unless (first_fault (record_fault image.now.bytes.now) 0 (record_count image.now.bytes.now)) tt }
 {
+    // A record goes by its number here, which is the refusal's place and is looked for by other records: nothing is indexed.
     for number in 0..image.num_records() {
         let place = number as u32;
         image

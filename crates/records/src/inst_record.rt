@@ -8,12 +8,12 @@ use rows::{InstructionData, Results};
 /// An instruction record, its numbers as they stand.
 #[derive(Clone, Copy, PartialEq, Eq, Debug)]
 pub struct InstRecord {
+    // Bytes of the format: a code may be unknown, a count past the end of its array, and the check refuses those.
     pub opcode: u8,
     pub cond: u8,
     pub arg_count: u8,
     pub result_count: u8,
     pub imm: i64,
-    // The counts are bytes of the format, and may be past the ends of the arrays: the check refuses those.
     pub args: [u32; 3],
     pub results: [u32; 2],
     pub block: u32,

@@ -36,7 +36,7 @@ impl From<u8> for Kind {
 }
 
 /// One record of an image.
-#[derive(Clone, Copy)]
+#[derive(Clone, Copy, PartialEq, Eq, Debug)]
 pub struct Record<'a> {
     bytes: &'a [u8; RECORD_LEN],
 }

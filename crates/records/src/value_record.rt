@@ -9,6 +9,7 @@ use rows::ValueData;
 /// A value record, its numbers as they stand.
 #[derive(Clone, Copy, PartialEq, Eq, Debug)]
 pub enum ValueRecord {
+    // The format has numbers for types: they may be unknown, and the check refuses those.
     /// tag 0: result `num` of an instruction
     Inst { ty: u16, num: u32, inst: u32 },
     /// tag 1: parameter `num` of a block
