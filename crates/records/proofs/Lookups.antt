@@ -29,6 +29,8 @@ pub now_unwrap_or : {X : Type 0} (o : Option (Bor X)) (b : Bor X) → (unwrap_or
 now_unwrap_or None b = refl
 now_unwrap_or (Some x) b = refl
 
+pub ruleset pieces = (piece_at, no_piece, now_unwrap_or)
+
 -- what is read by the number at a place of a list, d where there is none
 pub read_by : {A : Type 0} (f : ℕ → A) (ks : List ℕ) (i : ℕ) (d r : A) (Q : ℕ → Type 0) (o : Option ℕ) → o ≡ slice_get ks i → MatchOption o (r ≡ d) Q → ((k : ℕ) → Q k → r ≡ f k) → r ≡ get_or (map f ks) i d
 read_by f [] i d r Q o e h read = rw e at h

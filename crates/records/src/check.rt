@@ -24,7 +24,7 @@ pub fn ensure(holds: bool, cause: Cause) -> Result<(), Cause>
 fn check_each(image: &Numbered) -> Result<(), Refusal>
     ensures { result ≡ answer_unless (first_fault (record_fault image.now.bytes.now) 0 (record_count image.now.bytes.now)) tt }
 {
-    // A record goes by its number here, which is the refusal's place and is looked for by other records: nothing is indexed.
+    // A record goes by its number, which is the refusal's place and is what other records name: nothing is indexed.
     for number in 0..image.num_records() {
         let place = number as u32;
         image
@@ -35,8 +35,8 @@ fn check_each(image: &Numbered) -> Result<(), Refusal>
     Ok(())
 }
 
-/// Looks at each record of an image by itself and at what it names: how many records of each kind there are, or the first
-/// refusal.
+/// Looks at each record of an image by itself and at what it names: how many records of each kind there are, or the
+/// first refusal.
 #[tactic(auto, using(crate::proofs::Clean::not_whole, crate::proofs::Clean::whole))]
 pub fn check_records(bytes: &[u8]) -> Result<Counts, Refusal>
     ensures { result ≡ answer_unless (records_refusal bytes.now) (counts_of bytes.now) }

@@ -52,8 +52,8 @@ impl InstRecord {
         }
     }
 
-    /// The row that the record stands for. An unknown opcode is read as opaque and an unknown condition as the first: the
-    /// check refuses both.
+    /// The row that the record stands for. An unknown opcode is read as opaque and an unknown condition as the first:
+    /// the check refuses both.
     #[tactic(auto, using(crate::proofs::Lookups::known_or))]
     pub fn row(&self) -> InstructionData
         ensures { result ≡ inst_row self.now }

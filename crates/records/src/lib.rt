@@ -1,4 +1,5 @@
-//! The records of an image: 40 bytes each, no header, value records first, then instruction records; fields are little-endian.
+//! The records of an image: 40 bytes each, no header, value records first, then instruction records; fields are
+//! little-endian.
 //!
 //! Start at `specs/Fields.antt` (the format, field by field), `specs/Faults.antt` (what is refused of a record) and
 //! `check.rt` (the call that looks at all of them). `specs/RowsOf.antt` says which rows the records stand for.

@@ -43,7 +43,7 @@ pub struct Record<'a> {
 
 impl<'a> Record<'a> {
     /// Record `k` of an image, a blank one past its end.
-    #[tactic(auto, using(crate::proofs::Lookups::piece_at, crate::proofs::Lookups::no_piece, crate::proofs::Lookups::now_unwrap_or), unfolding(crate::specs::Fields::record_at))]
+    #[tactic(auto, using(crate::proofs::Lookups::pieces), unfolding(crate::specs::Fields::record_at))]
     pub fn of(image: &'a [u8], k: usize) -> Record<'a>
         ensures { result.bytes.now ≡ record_at image.now k }
     {

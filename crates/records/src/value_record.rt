@@ -82,8 +82,8 @@ impl ValueRecord {
         }
     }
 
-    /// The row that the record stands for. A number past 16 bits is cut, and a type that is unknown is invalid: the check
-    /// refuses both.
+    /// The row that the record stands for. A number past 16 bits is cut, and a type that is unknown is invalid: the
+    /// check refuses both.
     pub fn row(self) -> ValueData
         ensures { result ≡ value_row self }
     {
