@@ -2,7 +2,7 @@
 use Rattle.std.proofs.Common.{◌≡◌, ℕ, zero, suc, ◌+◌, ◌%◌, ◌<◌, ◌≤◌, Bool, true, false, cond, ◌&&◌, ◌||◌, eqb, leb, ◌⊎◌, List, [], ◌∷◌, length, Some, None, filter, sym, refl, ap, ◌∙◌, inl, inr, add-one, arith}
 use Rattle.std.specs.List.{range_with_len}
 use Rattle.std.proofs.lemmas.List.{length-append}
-use Rattle.std.proofs.lemmas.Bool.{cond-true, cond-false, ne_eqb, eq-eqb, lt-leb, le-leb, and_from, and_right}
+use Rattle.std.proofs.lemmas.Bool.{cond-true, cond-false, lt-leb, and_right}
 use Rattle.ir.specs.Refusals.{because, first_fault}
 use Rattle.ir.specs.declared.refusal.Cause.TheVariants.{NotRecords}
 use Rattle.records.specs.Faults.{fault_by, record_fault, is_whole, records_refusal}
@@ -52,12 +52,6 @@ module _ (bs : List ℕ) where
   unfolding records_refusal
   whole e = cond-true (is_whole bs) _ _ e
 
-  pub torn : (length bs % 40 ≡ 0 → ⊥) → is_whole bs ≡ false
-  torn ne = ap (λ b. b && (leb (length (value_places bs)) 1024 && leb (length (inst_places bs)) 1024)) (ne_eqb (length bs % 40) 0 ne)
-
   pub too_many : (1024 < length (value_places bs)) ⊎ (1024 < length (inst_places bs)) → is_whole bs ≡ false
   too_many (inl l) = and_right (eqb (length bs % 40) 0) _ (ap (λ b. b && leb (length (inst_places bs)) 1024) (lt-leb (length (value_places bs)) 1024 l))
   too_many (inr l) = and_right (eqb (length bs % 40) 0) _ (and_right (leb (length (value_places bs)) 1024) _ (lt-leb (length (inst_places bs)) 1024 l))
-
-  pub is_whole_lem : length bs % 40 ≡ 0 → length (value_places bs) ≤ 1024 → length (inst_places bs) ≤ 1024 → is_whole bs ≡ true
-  is_whole_lem e v i = and_from _ _ (eq-eqb (length bs % 40) 0 e) (and_from _ _ (le-leb (length (value_places bs)) 1024 v) (le-leb (length (inst_places bs)) 1024 i))

@@ -1,5 +1,5 @@
 -- An index lists the records of each kind. Assumes nothing.
-use Rattle.std.proofs.Common.{◌≡◌, ℕ, zero, suc, ◌+◌, ◌-◌, ◌<◌, ◌≤◌, Bool, true, false, cond, List, [], ◌∷◌, ◌++◌, length, filter, sym, refl, ap, ◌∙◌, add-zero, suc-add, zero-add, arith}
+use Rattle.std.proofs.Common.{◌≡◌, ℕ, zero, suc, ◌+◌, ◌-◌, ◌≤◌, Bool, true, false, cond, List, [], ◌∷◌, ◌++◌, length, filter, sym, refl, ap, ◌∙◌, add-zero, suc-add, zero-add, arith}
 use Rattle.std.specs.List.{range_with_len}
 use Rattle.std.proofs.lemmas.List.Elements.{filter-append}
 use Rattle.std.proofs.lemmas.List.{append-nil, length-append}
@@ -31,9 +31,3 @@ module _ (p : ℕ → Bool) where
   kept_length m n l =
       let e : m + (n - m) ≡ n = omega arith in
       omega (arith, ap (λ k. length (filter p (range_with_len 0 k))) (sym e), ap length (kept_split m (n - m)), length-append (filter p (range_with_len 0 m)) (filter p (range_with_len m (n - m))))
-
-  -- one that is kept, behind a full list
-  pub kept_over : (k n c : ℕ) → k < n → p k ≡ true → length (filter p (range_with_len 0 k)) ≡ c → c < length (filter p (range_with_len 0 n))
-  kept_over k n c l is full' =
-      let more = kept_more k ∙ ap (λ b. with_noted b k (filter p (range_with_len 0 k))) is in
-      omega (arith, kept_length (k + 1) n (omega arith), ap length more, length-append (filter p (range_with_len 0 k)) (k ∷ []))
