@@ -1,5 +1,5 @@
 // Which records are of values and which of instructions, and what other records say by the numbers of their kind.
-ghost use Rattle.std.specs.Prelude.{◌≡◌, ◌<◌, ◌≤◌, length, nat_lt, MatchResult};
+ghost use Rattle.std.specs.Prelude.{◌≡◌, ◌≤◌, length, nat_le, is_ok, IfOk, IfErr};
 ghost use Rattle.records.specs.Kinds.{places_of, value_places, inst_places};
 
 use crate::check::Counts;
@@ -16,7 +16,9 @@ type Places = ArrayVec<usize, MOST_OF_KIND>;
 
 /// The record numbers of a kind, unless there are too many.
 fn places_of(bytes: &[u8], kind: Kind) -> Result<Places, Cause>
-    ensures { MatchResult result (λ p. (p.items ≡ places_of kind bytes.now) × (length p.items ≤ 1024)) (λ why. (why ≡ Cause.NotRecords) × (1024 < length (places_of kind bytes.now))) }
+    ensures listed { IfOk result (λ p. p.items ≡ places_of kind bytes.now) }
+    ensures few { is_ok result ≡ nat_le (length (places_of kind bytes.now)) 1024 }
+    ensures refused { IfErr result (λ why. why ≡ Cause.NotRecords) }
 {
     let mut places = Places::new();
     for k in (0..bytes.len() / RECORD_LEN).filter(|k| Record::of(bytes, *k).is_of(kind)) {
@@ -38,13 +40,14 @@ pub(crate) struct Numbered<'a> {
 }
 
 impl<'a> Numbered<'a> {
-    ghost use Rattle.std.specs.Prelude.{true, false};
     ghost use Rattle.records.specs.Faults.{is_whole};
 
     /// The records of an image by their kinds: refused where they are not whole, or too many.
     #[tactic(auto, using(crate::proofs::Clean::too_many), unfolding(crate::specs::Kinds::value_places, crate::specs::Kinds::inst_places))]
     pub(crate) fn of(bytes: &'a [u8]) -> Result<Numbered<'a>, Cause>
-        ensures { MatchResult result (λ n. (n.bytes.now ≡ bytes.now) × (is_whole bytes.now ≡ true)) (λ why. (why ≡ Cause.NotRecords) × (is_whole bytes.now ≡ false)) }
+        ensures bytes { IfOk result (λ image. image.bytes.now ≡ bytes.now) }
+        ensures whole { is_ok result ≡ is_whole bytes.now }
+        ensures refused { IfErr result (λ why. why ≡ Cause.NotRecords) }
     {
         if bytes.len() % RECORD_LEN != 0 {
             return Err(Cause::NotRecords);
