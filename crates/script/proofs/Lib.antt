@@ -1,4 +1,3 @@
 pub mod Pieces
 pub mod Readings
-pub mod Turns
 pub mod ReadBack

@@ -1,52 +1,150 @@
--- How a loop over bytes comes to the words of a line and to the lines of a text. Assumes nothing.
-use Rattle.std.proofs.Common.{◌≡◌, ℕ, zero, suc, ◌+◌, ◌-◌, ◌<◌, true, false, List, [], ◌∷◌, length, get_or, take, drop, sym, refl, ap, ◌∙◌, add-zero, arith, length-drop, get_or-drop}
-use Rattle.std.proofs.lemmas.List.{at_drop_more, take_more, take_rest}
-use Rattle.std.proofs.lemmas.Bool.{both_ways, cond-true, cond-false}
+-- The first word of a line and the first line of a text, as they are cut off. Assumes nothing.
+use Rattle.std.proofs.Common.{◌≡◌, ℕ, suc, ◌+◌, ◌<◌, ◌≤◌, Bool, true, false, not, nat_lt, ltb-true, ltb-false, List, [], ◌∷◌, ◌++◌, length, get_or, slice_get, slice_index_or, take, drop, cond, Some, None, Option, MatchOption, Bor, ◌⊎◌, sym, refl, ap, subst, ◌∙◌, ⊎_elim, append_assoc, append-nil, drop-cons, length-append, arith}
+use Rattle.std.proofs.Math.ListN.{drop_of_length-le, get_or-append}
+use Rattle.std.proofs.Math.Seq.{get_or-append_seam}
+use Rattle.std.specs.Bool.{MatchBool}
+use Rattle.std.specs.List.{position_or_len, position, IsFirstMatchOrLen}
+use Rattle.std.specs.Option.{unwrap_or, option_map}
+use Rattle.std.proofs.lemmas.Option.{cond_some, none-some, unwrap_or-slice_get}
+use Rattle.std.proofs.lemmas.Bool.{cases_Bool, cond-true, cond-false, not-true, false≢true}
+use Rattle.std.proofs.lemmas.List.Sums.{passes_at_first, prefix_len-le-length}
 use Rattle.script.specs.Text.{is_space, is_feed, before, words, words_after, lines, lines_after}
 
-pub space_more : (bs : List ℕ) (n : ℕ) → n < length bs → is_space (get_or bs n 0) ≡ true → words (drop n bs) ≡ words bs → words (drop (n + 1) bs) ≡ words bs
-space_more bs n lt s h = sym (cond-true _ _ _ s) ∙ sym (at_drop_more words bs n 0 lt) ∙ h
+-- how many spaces stand in front, and how many bytes before the first space
+abbrev pub spaces : List ℕ → ℕ
+spaces = position_or_len (λ b. not (is_space b))
 
-pub word_more : (bs : List ℕ) (n : ℕ) → n < length bs → is_space (get_or bs n 0) ≡ false → words_after (take n bs) (drop n bs) ≡ words bs → words_after (take (n + 1) bs) (drop (n + 1) bs) ≡ words bs
-word_more bs n lt s h =
-    ap (λ w. words_after w (drop (n + 1) bs)) (take_more bs n 0 lt) ∙ sym (cond-false _ _ _ s) ∙ sym (at_drop_more (words_after (take n bs)) bs n 0 lt) ∙ h
+abbrev pub word_len : List ℕ → ℕ
+word_len = position_or_len is_space
 
-pub line_more : (bs : List ℕ) (n : ℕ) → n < length bs → is_feed (get_or bs n 0) ≡ false → lines bs ≡ lines_after (take n bs) (drop n bs) → lines bs ≡ lines_after (take (n + 1) bs) (drop (n + 1) bs)
-line_more bs n lt s h =
-    sym (ap (λ w. lines_after w (drop (n + 1) bs)) (take_more bs n 0 lt) ∙ sym (cond-false _ _ _ s) ∙ sym (at_drop_more (lines_after (take n bs)) bs n 0 lt) ∙ sym h)
+module _ (b : ℕ) (bs : List ℕ) where
+  spaces-yes : is_space b ≡ true → spaces (b ∷ bs) ≡ suc (spaces bs)
+  spaces-yes t = cond-true _ _ _ (ap (λ x. not (not x)) t) ∙ omega arith
+
+  spaces-no : is_space b ≡ false → spaces (b ∷ bs) ≡ 0
+  spaces-no t = cond-false _ _ _ (ap (λ x. not (not x)) t)
+
+  word_len-yes : is_space b ≡ true → word_len (b ∷ bs) ≡ 0
+  word_len-yes t = cond-false _ _ _ (ap not t)
+
+  word_len-no : is_space b ≡ false → word_len (b ∷ bs) ≡ suc (word_len bs)
+  word_len-no t = cond-true _ _ _ (ap not t) ∙ omega arith
+
+-- ---- what `position` gives
+
+not_found : (p : ℕ → Bool) (bs : List ℕ) → position p bs ≡ None → length bs ≤ position_or_len p bs
+not_found p bs e =
+    ⊎_elim
+    (λ t. absurd (none-some _ (sym e ∙ cond-true _ _ _ t)))
+    (λ t. ltb-false _ _ t)
+    (cases_Bool (nat_lt (position_or_len p bs) (length bs)))
+
+position_or_end : (p : ℕ → Bool) (bs : List ℕ) → unwrap_or (position p bs) (length bs) ≡ position_or_len p bs
+position_or_end p bs =
+    ⊎_elim
+    (λ t. ap (λ o. unwrap_or o (length bs)) (cond-true _ _ _ t))
+    (λ t. ap (λ o. unwrap_or o (length bs)) (cond-false _ _ _ t) ∙ omega (arith, ltb-false _ _ t, prefix_len-le-length (λ b. not (p b)) bs))
+    (cases_Bool (nat_lt (position_or_len p bs) (length bs)))
+
+-- ---- words
+
+-- spaces in front say nothing
+unspaced : (bs : List ℕ) → words bs ≡ words (drop (spaces bs) bs)
+unspaced [] = refl
+unspaced (b ∷ bs) =
+    ⊎_elim
+    (λ t. cond-true _ _ _ t ∙ unspaced bs ∙ sym (ap (λ n. words (drop n (b ∷ bs))) (spaces-yes b bs t)))
+    (λ t. sym (ap (λ n. words (drop n (b ∷ bs))) (spaces-no b bs t)))
+    (cases_Bool (is_space b))
 
 -- where a word ends
-word_ends : (w ds : List ℕ) → (0 < length ds → is_space (get_or ds 0 0) ≡ true) → words_after w ds ≡ before w (words ds)
-word_ends w [] s = refl
-word_ends w (d ∷ ds) s = cond-true _ _ _ (s (omega arith)) ∙ ap (before w) (sym (cond-true _ _ _ (s (omega arith))))
+word_ends : (w bs : List ℕ) → words_after w bs ≡ before (w ++ take (word_len bs) bs) (words (drop (word_len bs) bs))
+word_ends w [] = ap (λ l. before l []) (sym (append-nil w))
+word_ends w (b ∷ bs) =
+    let cut : ℕ → List (List ℕ) = λ n. before (w ++ take n (b ∷ bs)) (words (drop n (b ∷ bs))) in
+    ⊎_elim
+    (λ t. cond-true _ _ _ t ∙ sym (ap cut (word_len-yes b bs t) ∙ ap (λ l. before l (words (b ∷ bs))) (append-nil w) ∙ ap (before w) (cond-true _ _ _ t)))
+    (λ t. cond-false _ _ _ t ∙ word_ends (w ++ b ∷ []) bs ∙ sym (ap cut (word_len-no b bs t) ∙ ap (λ l. before l (words (drop (word_len bs) bs))) (sym (append_assoc w (b ∷ []) (take (word_len bs) bs)))))
+    (cases_Bool (is_space b))
 
-front : (bs : List ℕ) (n : ℕ) → get_or (drop n bs) 0 0 ≡ get_or bs n 0
-front bs n = get_or-drop n bs 0 0 ∙ ap (λ i. get_or bs i 0) (add-zero n)
+-- a word that is begun is the first
+word_first : (b : ℕ) (bs : List ℕ) → is_space b ≡ false → let l = b ∷ bs in words l ≡ take (word_len l) l ∷ words (drop (word_len l) l)
+word_first b bs f =
+    let l = b ∷ bs in
+    let Cut : ℕ → Type 0 = λ n. before (take n l) (words (drop n l)) ≡ take n l ∷ words (drop n l) in
+    word_ends [] l ∙ subst Cut (sym (word_len-no b bs f)) refl
 
-pub word_all : (bs : List ℕ) (n : ℕ) → (n < length bs → is_space (get_or bs n 0) ≡ true) → words_after (take n bs) (drop n bs) ≡ words bs → words bs ≡ before (take n bs) (words (drop n bs))
-word_all bs n s h =
-    sym h ∙ word_ends (take n bs) (drop n bs) (λ lt. ap is_space (front bs n) ∙ s (omega (arith, length-drop n bs)))
+-- where every byte is a space, no word is left
+pub no_word : (bs : List ℕ) → position (λ b. not (is_space b)) bs ≡ None → words bs ≡ []
+no_word bs e = unspaced bs ∙ ap words (drop_of_length-le bs (not_found _ _ e))
 
--- nothing is left where spaces are skipped and no word stands
-pub next_none : (s rest after : List ℕ) (n m : ℕ) → rest ≡ drop n s → words (drop n s) ≡ words s → (n < length s → is_space (get_or s n 0) ≡ false) → (m < length rest → is_space (get_or rest m 0) ≡ true) → after ≡ drop m rest → m ≡ 0 → (words s ≡ []) × (words after ≡ [])
-next_none s [] after n m e same not go back z =
-    (sym same ∙ ap words (sym e), ap words (back ∙ ap (λ k. drop k []) z))
-next_none s (b ∷ bs) after n m e same not go back z =
-    let lt : m < length (b ∷ bs) = omega arith in
-    let here : is_space (get_or (b ∷ bs) 0 0) ≡ true = ap (λ k. is_space (get_or (b ∷ bs) k 0)) (sym z) ∙ go lt in
-    let there : is_space (get_or (b ∷ bs) 0 0) ≡ false = ap (λ l. is_space (get_or l 0 0)) e ∙ ap is_space (front s n) ∙ not (omega (arith, length-drop n s, ap length e)) in
-    absurd (both_ways _ there here)
+-- the first word stands behind the spaces
+pub next_word : (bs rest word after : List ℕ) (i n : ℕ) → position (λ b. not (is_space b)) bs ≡ Some i → rest ≡ drop i bs → n ≡ unwrap_or (position is_space rest) (length rest) → word ≡ take n rest → after ≡ drop n rest → words bs ≡ word ∷ words after
+next_word bs rest word after i n found r stop w a =
+    let First : List ℕ → Type 0 = λ l. words l ≡ take (word_len l) l ∷ words (drop (word_len l) l) in
+    let at = cond_some _ _ _ found in
+    let lt : spaces bs < length bs = ltb-true _ _ at.0 in
+    let b = get_or bs (spaces bs) 0 in
+    let cut : First (drop (spaces bs) bs) = subst First (sym (drop-cons bs (spaces bs) 0 lt)) (word_first b (drop (suc (spaces bs)) bs) (not-true _ (passes_at_first (λ b. not (is_space b)) bs 0 lt))) in
+    let behind : drop (spaces bs) bs ≡ rest = ap (λ k. drop k bs) at.1 ∙ sym r in
+    let end : word_len rest ≡ n = sym (stop ∙ position_or_end is_space rest) in
+    unspaced bs ∙ ap words behind ∙ subst First behind cut ∙ ap (λ k. take k rest ∷ words (drop k rest)) end
+    ∙ ap (λ l. l ∷ words (drop n rest)) (sym w) ∙ ap (λ l. word ∷ words l) (sym a)
 
--- the last line
-pub line_last : (bs line rest : List ℕ) (n : ℕ) → 0 < length bs → line ≡ take n bs → rest ≡ drop n bs → length rest ≡ 0 → lines bs ≡ lines_after (take n bs) (drop n bs) → lines bs ≡ line ∷ lines rest
-line_last [] line rest n lt f e none h = absurd (omega arith)
-line_last (b ∷ bs) line [] zero lt f e none h = absurd (omega (arith, ap length e))
-line_last (b ∷ bs) line [] (suc n) lt f e none h = h ∙ ap (lines_after (b ∷ take n bs)) (sym e) ∙ ap (λ l. l ∷ []) (sym f)
-line_last (b ∷ bs) line (d ∷ ds) n lt f e none h = absurd (omega arith)
+-- ---- lines
+
+lines_after_few : (w bs : List ℕ) → length (lines_after w bs) ≤ length w + length bs
+lines_after_few [] [] = omega arith
+lines_after_few (b ∷ w) [] = omega arith
+lines_after_few w (b ∷ bs) =
+    ⊎_elim
+    (λ t. let e : lines_after w (b ∷ bs) ≡ w ∷ lines bs = cond-true _ _ _ t in omega (arith, ap length e, lines_after_few [] bs))
+    (λ t. let e : lines_after w (b ∷ bs) ≡ lines_after (w ++ b ∷ []) bs = cond-false _ _ _ t in omega (arith, ap length e, lines_after_few (w ++ b ∷ []) bs, length-append w (b ∷ [])))
+    (cases_Bool (is_feed b))
+
+-- a text has no more lines than bytes
+pub lines_few : (bs : List ℕ) → length (lines bs) ≤ length bs
+lines_few bs = omega (arith, lines_after_few [] bs)
+
+-- no byte of it ends a line
+abbrev pub Unfed : List ℕ → Type 0
+Unfed l = (k : ℕ) → k < length l → is_feed (get_or l k 0) ≡ false
 
 -- a line that ends in a line feed
-pub line_fed : (bs line rest : List ℕ) (n : ℕ) → line ≡ take n bs → rest ≡ drop n bs → 0 < length rest → (n < length bs → is_feed (get_or bs n 0) ≡ true) → lines bs ≡ lines_after (take n bs) (drop n bs) → lines bs ≡ line ∷ lines (take (length rest - 1) (drop 1 rest))
-line_fed bs line [] n f e some s h = absurd (omega arith)
-line_fed bs line (d ∷ ds) n f e some s h =
-    let fed : is_feed d ≡ true = ap (λ l. is_feed (get_or l 0 0)) e ∙ ap is_feed (front bs n) ∙ s (omega (arith, length-drop n bs, ap length e)) in
-    h ∙ ap (lines_after (take n bs)) (sym e) ∙ cond-true _ _ _ fed ∙ ap (λ l. l ∷ lines ds) (sym f) ∙ ap (λ l. line ∷ lines l) (sym (take_rest (d ∷ ds) 1))
+pub line_fed : (w l : List ℕ) (b : ℕ) (bs : List ℕ) → Unfed l → is_feed b ≡ true → lines_after w (l ++ b ∷ bs) ≡ (w ++ l) ∷ lines bs
+line_fed w [] b bs h t = cond-true _ _ _ t ∙ ap (λ l. l ∷ lines bs) (sym (append-nil w))
+line_fed w (c ∷ l) b bs h t =
+    cond-false _ _ _ (h 0 (omega arith)) ∙ line_fed (w ++ c ∷ []) l b bs (λ k lt. h (suc k) (omega arith)) t
+    ∙ ap (λ l. l ∷ lines bs) (append_assoc w (c ∷ []) l)
+
+-- a last line that lacks it
+line_last : (w l : List ℕ) → Unfed l → lines_after w l ≡ before (w ++ l) []
+line_last w [] h = ap (λ l. before l []) (sym (append-nil w))
+line_last w (c ∷ l) h =
+    cond-false _ _ _ (h 0 (omega arith)) ∙ line_last (w ++ c ∷ []) l (λ k lt. h (suc k) (omega arith))
+    ∙ ap (λ l. before l []) (append_assoc w (c ∷ []) l)
+
+-- the first line, as a split of the text at the first line feed cuts it off, and the text behind it
+pub next_line : (bs line rest after : List ℕ) (done : Bool) → 0 < length bs → MatchBool done (bs ≡ line) ((b : ℕ) × (bs ≡ line ++ (b ∷ rest))) → IsFirstMatchOrLen is_feed bs (length line) → after ≡ cond done [] rest → lines bs ≡ line ∷ lines after
+next_line [] line rest after true some cut first e = absurd (omega arith)
+next_line (c ∷ bs) line rest after true some cut first e =
+    let all = c ∷ bs in
+    line_last [] all (λ k lt. first.0 k 0 (omega arith) (omega (arith, lt, ap length cut))) ∙ ap (λ l. l ∷ []) cut ∙ ap (λ l. line ∷ lines l) (sym e)
+next_line bs line rest after false some cut first e =
+    let b = cut.0 in
+    let here : get_or bs (length line) 0 ≡ b = ap (λ l. get_or l (length line) 0) cut.1 ∙ get_or-append_seam line b rest 0 in
+    let clear : Unfed line = λ k lt. ap is_feed (sym (ap (λ l. get_or l k 0) cut.1 ∙ get_or-append line (b ∷ rest) 0 k lt)) ∙ first.0 k 0 (omega arith) lt in
+    ap lines cut.1 ∙ line_fed [] line b rest clear (ap is_feed (sym here) ∙ first.1 (omega (arith, ap length cut.1, length-append line (b ∷ rest))) 0)
+    ∙ ap (λ l. line ∷ lines l) (sym e)
+
+-- what the split gives next is the text behind the line feed, and nothing where there is none
+pub text_behind : (r : Option (Bor (List ℕ))) (d : Bor (List ℕ)) (done last : Bool) (rest more : List ℕ) (n : ℕ) (Q : Bor (List ℕ) → Type 0) → n ≡ 1 → d.now ≡ [] → MatchOption r ((n ≡ 0) ⊎ (done ≡ true)) (λ x. (0 < n) × (n ≡ 1 → last ≡ true) × MatchBool last (rest ≡ x.now) ((b : ℕ) × (rest ≡ x.now ++ (b ∷ more))) × (done ≡ false) × Q x) → (unwrap_or r d).now ≡ cond done [] rest
+text_behind None d done last rest more n Q one none h =
+    ⊎_elim (λ z. absurd (omega arith)) (λ t. none ∙ sym (cond-true _ _ _ t)) h
+text_behind (Some x) d done true rest more n Q one none h = sym (cond-false _ _ _ h.3 ∙ h.2)
+text_behind (Some x) d done false rest more n Q one none h = absurd (false≢true (h.1 one))
+
+-- the line at a place, or else nothing
+pub line_or : (ls : List (List ℕ)) (n : ℕ) (r : Option (Bor (List ℕ))) (d : Bor (List ℕ)) → d.now ≡ [] → option_map (λ x. x.now) r ≡ slice_get ls n → (unwrap_or r d).now ≡ slice_index_or ls n []
+line_or ls n None d none e = none ∙ ap (λ o. unwrap_or o []) e ∙ unwrap_or-slice_get ls n []
+line_or ls n (Some x) d none e = ap (λ o. unwrap_or o []) e ∙ unwrap_or-slice_get ls n []

@@ -1,24 +1,26 @@
 -- What is written reads back. Assumes nothing.
-use Rattle.std.proofs.Common.{◌≡◌, ℕ, suc, ◌+◌, ◌-◌, ◌*◌, ◌/◌, ◌%◌, ◌^◌, ◌<◌, ◌≤◌, Bool, true, false, not, ◌&&◌, ◌||◌, eqb, ltb, List, [], ◌∷◌, ◌++◌, map, length, get_or, ℤ, pos, negsuc, neg_ℤ, Some, None, Ok, codes, decimal, Option, sym, refl, ap, ◌∙◌, append_assoc, append-nil, arith, length-append}
+use Rattle.std.proofs.Common.{◌≡◌, ℕ, zero, suc, ◌+◌, ◌-◌, ◌*◌, ◌/◌, ◌%◌, ◌^◌, ◌<◌, ◌≤◌, Bool, true, false, not, ◌&&◌, ◌||◌, eqb, ltb, List, [], ◌∷◌, ◌++◌, map, length, get_or, ℤ, pos, negsuc, neg_ℤ, Some, None, Ok, codes, decimal, sym, refl, ap, ◌∙◌, append_assoc, append-nil, arith, length-append}
 use lib.Signed.{mag}
 use Rattle.std.specs.Fmt.{signed_decimal}
-use Rattle.std.specs.List.{AllByRecursion as All}
+use Rattle.std.specs.List.{AllByRecursion as All, find}
 use Rattle.std.specs.Str.{bytes_eq}
 use Rattle.std.specs.Option.{option_map}
 use Rattle.std.proofs.lemmas.Fmt.{decimal_by_steps}
 use Rattle.std.proofs.lemmas.Bool.{and_parts, and_from, and_left, or_parts, or_from, not-true, not_from_false, cond-true, cond-false, ne_eqb, le-leb, lt-leb, ltb-true}
-use Rattle.ir.specs.Codes.{opcodes, opcode_name}
+use Rattle.ir.specs.Codes.{opcodes, opcode_name, opcode_code}
+use Rattle.ir.specs.Printed.{block_text, inst_text, value_text}
 use Rattle.ir.specs.declared.entities.Block.{Block}
 use Rattle.ir.specs.declared.entities.Inst.{Inst}
 use Rattle.ir.specs.declared.entities.Value.{Value}
 use Rattle.calls.specs.Calls as calls
 use Rattle.calls.specs.Calls.{Call, InstCall}
 use Rattle.script.specs.declared.items.Item.TheVariants.{Operand, Immediate, Condition}
-use Rattle.script.specs.Text.{is_space, is_feed, before, words, words_after, lines, lines_after}
+use Rattle.script.specs.Text.{is_space, is_feed, before, words, words_after, lines}
 use Rattle.script.specs.Numbers.{and_then, is_digit, decimal_after, below, number, behind, numbered, block_of, inst_of, value_of, immediate_from, immediate_of}
-use Rattle.script.specs.Names.{or_else, code_from, type_named, type_of, opcode_named, opcode_of, condition_named, condition_of}
+use Rattle.script.specs.Names.{or_else, type_named, type_of, opcode_named, opcode_of, condition_named, condition_of}
 use Rattle.script.specs.Script.{ItemsSaid, item_of, with_item, no_items, items_of, types_of, none, one, saying, Says, line_of, lines_of}
-use Rattle.script.specs.Spelled.{block_word, inst_word, value_word, item_words, spelled, spaced, written, Fits, InstFits, ReadsBack}
+use Rattle.script.specs.Spelled.{item_words, spelled, spaced, written, Fits, InstFits, ReadsBack}
+use Rattle.script.proofs.Pieces.{Unfed, line_fed}
 use Rattle.script.proofs.Readings.{behind_front}
 
 -- ---- numbers
@@ -68,50 +70,48 @@ number_reads limit n lt fits = number_of limit n (decimal n) lt (writes n fits)
 numbered_reads : (p : List ℕ) (n : ℕ) → n < 2 ^ 32 → numbered p (p ++ decimal n) ≡ Some n
 numbered_reads p n lt = ap (λ o. and_then o (number (2 ^ 32))) (behind_front p (decimal n)) ∙ number_reads (2 ^ 32) n lt (omega arith)
 
-block_reads : (b : Block) → b.0 < 2 ^ 32 → block_of (block_word b) ≡ Some b
+block_reads : (b : Block) → b.0 < 2 ^ 32 → block_of (block_text b) ≡ Some b
 block_reads b lt = ap (option_map (λ n. record { 0 = n })) (numbered_reads (codes "block") b.0 lt)
 
-inst_reads : (i : Inst) → i.0 < 2 ^ 32 → inst_of (inst_word i) ≡ Some i
+inst_reads : (i : Inst) → i.0 < 2 ^ 32 → inst_of (inst_text i) ≡ Some i
 inst_reads i lt = ap (option_map (λ n. record { 0 = n })) (numbered_reads (codes "inst") i.0 lt)
 
-value_reads : (v : Value) → v.0 < 2 ^ 32 → value_of (value_word v) ≡ Some v
+value_reads : (v : Value) → v.0 < 2 ^ 32 → value_of (value_text v) ≡ Some v
 value_reads v lt = ap (option_map (λ n. record { 0 = n })) (numbered_reads (codes "v") v.0 lt)
 
 -- ---- names that a number is not
 
 -- a letter stands first in the name of each case
-abbrev lettered : {X : Type 0} → (X → List ℕ) → List (Option X) → Bool
+abbrev lettered : {X : Type 0} → (X → List ℕ) → List X → Bool
 lettered name [] = true
-lettered name (None ∷ xs) = lettered name xs
-lettered name (Some x ∷ xs) = ltb 57 (get_or (name x) 0 0) && lettered name xs
+lettered name (x ∷ xs) = ltb 57 (get_or (name x) 0 0) && lettered name xs
 
 apart : (d : ℕ) (ds name : List ℕ) → d ≤ 57 → ltb 57 (get_or name 0 0) ≡ true → bytes_eq (d ∷ ds) name ≡ false
 apart d ds [] low high = refl
 apart d ds (c ∷ cs) low high = let far : 57 < c = ltb-true 57 c high in and_left _ _ (ne_eqb d c (λ e. omega arith))
 
-no_code : {X : Type 0} (name : X → List ℕ) (d : ℕ) (ds : List ℕ) (n : ℕ) (xs : List (Option X)) → d ≤ 57 → lettered name xs ≡ true → code_from name (d ∷ ds) n xs ≡ None
-no_code name d ds n [] low h = refl
-no_code name d ds n (None ∷ xs) low h = no_code name d ds (n + 1) xs low h
-no_code name d ds n (Some x ∷ xs) low h =
+unnamed : {X : Type 0} (name : X → List ℕ) (d : ℕ) (ds : List ℕ) (xs : List X) → d ≤ 57 → lettered name xs ≡ true → find (λ x. bytes_eq (d ∷ ds) (name x)) xs ≡ None
+unnamed name d ds [] low h = refl
+unnamed name d ds (x ∷ xs) low h =
     let parts = and_parts (ltb 57 (get_or (name x) 0 0)) (lettered name xs) h in
-    cond-false _ _ _ (apart d ds (name x) low parts.0) ∙ no_code name d ds (n + 1) xs low parts.1
+    cond-false _ _ _ (apart d ds (name x) low parts.0) ∙ unnamed name d ds xs low parts.1
 
 opcode_of_lem : (n : ℕ) (ds : List ℕ) → n < 2 ^ 8 → Writes n ds → opcode_of ds ≡ Some n
 unfolding opcode_named
 opcode_of_lem n [] lt w = absurd (omega (arith, w.some))
 opcode_of_lem n (d ∷ ds) lt w =
-    ap (λ o. or_else o (number 256 (d ∷ ds))) (no_code opcode_name d ds 0 opcodes w.figures.0.1 refl) ∙ number_of 256 n (d ∷ ds) lt w
+    ap (λ o. or_else (option_map opcode_code o) (number 256 (d ∷ ds))) (unnamed opcode_name d ds opcodes w.figures.0.1 refl) ∙ number_of 256 n (d ∷ ds) lt w
 
 type_of_lem : (n : ℕ) (ds : List ℕ) → n < 2 ^ 16 → Writes n ds → type_of ds ≡ Some n
 type_of_lem n [] lt w = absurd (omega (arith, w.some))
 type_of_lem n (d ∷ ds) lt w =
     let low : d ≤ 57 = w.figures.0.1 in
-    let unnamed : type_named (d ∷ ds) ≡ None =
+    let no_name : type_named (d ∷ ds) ≡ None =
     cond-false _ _ _ (apart d ds (codes "i8") low refl) ∙ cond-false _ _ _ (apart d ds (codes "i16") low refl)
     ∙ cond-false _ _ _ (apart d ds (codes "i32") low refl)
     ∙ cond-false _ _ _ (apart d ds (codes "i64") low refl)
     ∙ cond-false _ _ _ (apart d ds (codes "other") low refl) in
-    ap (λ o. or_else o (number 65536 (d ∷ ds))) unnamed ∙ number_of 65536 n (d ∷ ds) lt w
+    ap (λ o. or_else o (number 65536 (d ∷ ds))) no_name ∙ number_of 65536 n (d ∷ ds) lt w
 
 type_reads : (n : ℕ) → n < 2 ^ 16 → type_of (decimal n) ≡ Some n
 type_reads n lt = type_of_lem n (decimal n) lt (writes n (omega arith))
@@ -122,9 +122,9 @@ condition_reads : (n : ℕ) → n < 2 ^ 8 → item_of (codes "cc" ++ decimal n) 
 unfolding condition_named
 condition_reads n lt = ap (option_map Condition) (number_reads 256 n lt (omega arith))
 
-operand_reads : (v : Value) → v.0 < 2 ^ 32 → item_of (value_word v) ≡ Some (Operand v)
+operand_reads : (v : Value) → v.0 < 2 ^ 32 → item_of (value_text v) ≡ Some (Operand v)
 operand_reads v lt =
-    ap (λ o. or_else (option_map Operand o) (or_else (option_map Immediate (immediate_of (value_word v))) (option_map Condition (condition_of (value_word v))))) (value_reads v lt)
+    ap (λ o. or_else (option_map Operand o) (or_else (option_map Immediate (immediate_of (value_text v))) (option_map Condition (condition_of (value_text v))))) (value_reads v lt)
 
 -- an immediate: what it is, and that it is no arrow
 record IsImmediate (z : ℤ) (w : List ℕ) : Type 0 where
@@ -159,10 +159,10 @@ immediate_reads (pos n) lt = positive n (decimal n) lt (writes n (omega arith))
 immediate_reads (negsuc n) lt = negative n (decimal (suc n)) lt (writes (suc n) (omega arith))
 
 -- the operands, behind what came
-operands_read : (said : ItemsSaid) (args : List Value) (rest : List (List ℕ)) → All (λ v. v.0 < 2 ^ 32) args → items_of said (map value_word args ++ codes "->" ∷ rest) ≡ Some (record { args = said.args ++ args; imm = said.imm; cond = said.cond }, rest)
+operands_read : (said : ItemsSaid) (args : List Value) (rest : List (List ℕ)) → All (λ v. v.0 < 2 ^ 32) args → items_of said (map value_text args ++ codes "->" ∷ rest) ≡ Some (record { args = said.args ++ args; imm = said.imm; cond = said.cond }, rest)
 operands_read said [] rest h = ap (λ l. Some (record { args = l; imm = said.imm; cond = said.cond }, rest)) (sym (append-nil said.args))
 operands_read said (v ∷ vs) rest h =
-    ap (λ o. and_then (and_then o (with_item said)) (λ more. items_of more (map value_word vs ++ codes "->" ∷ rest))) (operand_reads v h.0)
+    ap (λ o. and_then (and_then o (with_item said)) (λ more. items_of more (map value_text vs ++ codes "->" ∷ rest))) (operand_reads v h.0)
     ∙ operands_read (record { args = said.args ++ v ∷ []; imm = said.imm; cond = said.cond }) vs rest h.1
     ∙ ap (λ l. Some (record { args = l; imm = said.imm; cond = said.cond }, rest)) (append_assoc said.args (v ∷ []) vs)
 
@@ -175,8 +175,8 @@ types_read came (t ∷ ts) h =
 items_read : (new : InstCall) → InstFits new → items_of no_items (item_words new) ≡ Some (record { args = new.args; imm = Some new.imm; cond = Some new.cond }, map decimal new.types)
 items_read new h =
     let imm = immediate_reads new.imm h.imm in
-    let behind_cond = signed_decimal new.imm ∷ (map value_word new.args ++ codes "->" ∷ map decimal new.types) in
-    let behind_imm = map value_word new.args ++ codes "->" ∷ map decimal new.types in
+    let behind_cond = signed_decimal new.imm ∷ (map value_text new.args ++ codes "->" ∷ map decimal new.types) in
+    let behind_imm = map value_text new.args ++ codes "->" ∷ map decimal new.types in
     let said : ItemsSaid = record { args = []; imm = None; cond = Some new.cond } in
     ap (λ o. and_then (and_then o (with_item no_items)) (λ more. items_of more behind_cond)) (condition_reads new.cond h.cond)
     ∙ cond-false _ _ _ imm.no_arrow
@@ -198,7 +198,7 @@ call_reads (calls.AppendInst new) h =
     rw (e₁, e₂, e₃, e₄) refl
 call_reads (calls.ClearResults i) h = ap (λ o. saying (and_then o (λ i. none (calls.ClearResults i) []))) (inst_reads i h)
 call_reads (calls.ChangeToAlias dest src) h =
-    ap (λ o. saying (and_then o (λ d. one value_of (calls.ChangeToAlias d) (value_word src ∷ [])))) (value_reads dest h.0)
+    ap (λ o. saying (and_then o (λ d. one value_of (calls.ChangeToAlias d) (value_text src ∷ [])))) (value_reads dest h.0)
     ∙ ap (λ o. saying (and_then o (λ s. none (calls.ChangeToAlias dest s) []))) (value_reads src h.1)
 call_reads calls.ResolveAllAliases h = refl
 
@@ -239,12 +239,10 @@ words_back [] h = refl
 words_back (w ∷ ws) h =
     word_first w [] (spaced ws) h.0.1 ∙ before_some w (words (spaced ws)) h.0.0 ∙ ap (λ l. w ∷ l) (words_back ws h.1)
 
-line_first : (l v rest : List ℕ) → unfed l ≡ true → lines_after v (l ++ 10 ∷ rest) ≡ (v ++ l) ∷ lines rest
-line_first [] v rest h = ap (λ l. l ∷ lines rest) (sym (append-nil v))
-line_first (b ∷ l) v rest h =
-    let parts = and_parts (not (is_feed b)) (unfed l) h in
-    cond-false _ _ _ (not-true _ parts.0) ∙ line_first l (v ++ b ∷ []) rest parts.1
-    ∙ ap (λ l. l ∷ lines rest) (append_assoc v (b ∷ []) l)
+unfed_at : (l : List ℕ) → unfed l ≡ true → Unfed l
+unfed_at [] h k lt = absurd (omega arith)
+unfed_at (b ∷ l) h zero lt = not-true _ (and_parts (not (is_feed b)) (unfed l) h).0
+unfed_at (b ∷ l) h (suc k) lt = unfed_at l (and_parts (not (is_feed b)) (unfed l) h).1 k (omega arith)
 
 unfed_more : (w rest : List ℕ) → plain w ≡ true → unfed rest ≡ true → unfed (w ++ 32 ∷ rest) ≡ true
 unfed_more [] rest h r = r
@@ -268,13 +266,13 @@ plain_decimal n lt = figures_plain (decimal n) (writes n lt).figures
 proper_decimal : (n : ℕ) → n < 2 ^ 64 → Proper (decimal n)
 proper_decimal n lt = ((writes n lt).some, plain_decimal n lt)
 
-proper_block : (b : Block) → b.0 < 2 ^ 32 → Proper (block_word b)
+proper_block : (b : Block) → b.0 < 2 ^ 32 → Proper (block_text b)
 proper_block b lt = (omega arith, plain_decimal b.0 (omega arith))
 
-proper_inst : (i : Inst) → i.0 < 2 ^ 32 → Proper (inst_word i)
+proper_inst : (i : Inst) → i.0 < 2 ^ 32 → Proper (inst_text i)
 proper_inst i lt = (omega arith, plain_decimal i.0 (omega arith))
 
-proper_value : (v : Value) → v.0 < 2 ^ 32 → Proper (value_word v)
+proper_value : (v : Value) → v.0 < 2 ^ 32 → Proper (value_text v)
 proper_value v lt = (omega arith, plain_decimal v.0 (omega arith))
 
 proper_signed : (z : ℤ) → mag z < 2 ^ 63 → Proper (signed_decimal z)
@@ -285,7 +283,7 @@ proper_types : (ts : List ℕ) → All (λ t. t < 2 ^ 16) ts → All Proper (map
 proper_types [] h = tt
 proper_types (t ∷ ts) h = (let lt : t < 2 ^ 16 = h.0 in proper_decimal t (omega arith), proper_types ts h.1)
 
-proper_values : (vs : List Value) (rest : List (List ℕ)) → All (λ v. v.0 < 2 ^ 32) vs → All Proper rest → All Proper (map value_word vs ++ rest)
+proper_values : (vs : List Value) (rest : List (List ℕ)) → All (λ v. v.0 < 2 ^ 32) vs → All Proper rest → All Proper (map value_text vs ++ rest)
 proper_values [] rest h r = r
 proper_values (v ∷ vs) rest h r = (proper_value v h.0, proper_values vs rest h.1 r)
 
@@ -313,7 +311,7 @@ script_back : (said : List Call) (n : ℕ) (calls : List Call) → All Fits call
 script_back said n [] h = ap Ok (sym (append-nil said))
 script_back said n (call ∷ calls) h =
     let words_fit = proper call h.0 in
-    ap (lines_of said n) (line_first (spaced (spelled call)) [] (written calls) (spaced_unfed (spelled call) words_fit))
+    ap (lines_of said n) (line_fed [] (spaced (spelled call)) 10 (written calls) (unfed_at _ (spaced_unfed (spelled call) words_fit)) refl)
     ∙ line_said said n call (spaced (spelled call)) (lines (written calls)) (ap line_of (words_back (spelled call) words_fit) ∙ call_reads call h.0)
     ∙ script_back (said ++ call ∷ []) (n + 1) calls h.1
     ∙ ap Ok (append_assoc said (call ∷ []) calls)

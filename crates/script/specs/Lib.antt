@@ -3,3 +3,4 @@ pub mod Numbers
 pub mod Names
 pub mod Script
 pub mod Spelled
+pub mod Printed

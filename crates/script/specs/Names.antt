@@ -1,7 +1,9 @@
 -- The names of the calls, the types, the opcodes and the conditions. Assumes nothing.
-use Rattle.std.specs.Prelude.{ℕ, ◌+◌, Bool, false, cond, List, [], ◌∷◌, Some, None, codes, Option}
+use Rattle.std.specs.Prelude.{ℕ, cond, List, [], ◌∷◌, Some, None, codes, Option}
+use Rattle.std.specs.List.{find}
+use Rattle.std.specs.Option.{option_map}
 use Rattle.std.specs.Str.{bytes_eq}
-use Rattle.ir.specs.Codes.{opcodes, opcode_name, intccs, intcc_name}
+use Rattle.ir.specs.Codes.{opcodes, opcode_name, opcode_code, intccs, intcc_name, intcc_code}
 use Rattle.script.specs.Numbers.{and_then, number, behind}
 use Rattle.script.specs.declared.names.Keyword.{Keyword}
 use Rattle.script.specs.declared.names.Keyword.TheVariants.{MakeBlock, AppendBlockParam, AppendInst, ClearResults, ChangeToAlias, ResolveAllAliases}
@@ -27,24 +29,18 @@ type_named = named ((codes "i8", 8) ∷ (codes "i16", 16) ∷ (codes "i32", 32) 
 abbrev pub type_of : List ℕ → Option ℕ
 type_of word = or_else (type_named word) (number 65536 word)
 
--- whether a word is the name of the case, if there is one
-abbrev pub is_named : {X : Type 0} → (X → List ℕ) → Option X → List ℕ → Bool
-is_named name None word = false
-is_named name (Some x) word = bytes_eq word (name x)
-
--- the code of the case that a word names, where the cases from code n on are listed
-abbrev pub code_from : {X : Type 0} → (X → List ℕ) → List ℕ → ℕ → List (Option X) → Option ℕ
-code_from name word n [] = None
-code_from name word n (x ∷ xs) = cond (is_named name x word) (Some n) (code_from name word (n + 1) xs)
+-- the code of the first case that has the word as its name
+abbrev pub code_named : {X : Type 0} → (X → List ℕ) → (X → ℕ) → List X → List ℕ → Option ℕ
+code_named name code xs word = option_map code (find (λ x. bytes_eq word (name x)) xs)
 
 unfoldable pub opcode_named : List ℕ → Option ℕ
-opcode_named word = code_from opcode_name word 0 opcodes
+opcode_named = code_named opcode_name opcode_code opcodes
 
 abbrev pub opcode_of : List ℕ → Option ℕ
 opcode_of word = or_else (opcode_named word) (number 256 word)
 
 unfoldable pub condition_named : List ℕ → Option ℕ
-condition_named word = code_from intcc_name word 0 intccs
+condition_named = code_named intcc_name intcc_code intccs
 
 abbrev pub condition_of : List ℕ → Option ℕ
 condition_of word = or_else (condition_named word) (and_then (behind (codes "cc") word) (number 256))

@@ -7,8 +7,6 @@ use Rattle.ir.specs.declared.entities.Value.{Value}
 use Rattle.calls.specs.Calls as calls
 use Rattle.calls.specs.Calls.{Call, call_of}
 use Rattle.calls.specs.declared.call.BuildCall.{BuildCall}
-use Rattle.script.specs.declared.error.LineError.{LineError}
-use Rattle.script.specs.declared.error.LineError.TheVariants as line_error
 use Rattle.script.specs.declared.error.ScriptError.{ScriptError}
 use Rattle.script.specs.declared.error.ScriptError.TheVariants as script_error
 use Rattle.script.specs.declared.items.Item.{Item}
@@ -131,17 +129,17 @@ script_of text = lines_of [] 0 (lines text)
 
 -- ---- what a reader answers
 
--- a reading, unless memory ran out
-abbrev pub Reads : {X Y : Type 0} → (X → Y) → Result X LineError → Option Y → Type 0
-Reads f (Ok x) said = said ≡ Some (f x)
-Reads f (Err line_error.Unreadable) said = said ≡ None
-Reads f (Err line_error.Memory) said = Unit {0}
+-- a reading in line n, unless memory ran out
+abbrev pub Reads : {X Y : Type 0} → ℕ → (X → Y) → Result X ScriptError → Option Y → Type 0
+Reads n f (Ok x) said = said ≡ Some (f x)
+Reads n f (Err (script_error.Line m)) said = (m ≡ n) × (said ≡ None)
+Reads n f (Err script_error.Memory) said = Unit {0}
 
-abbrev pub ReadsLine : Result (Option BuildCall) LineError → Line → Type 0
-ReadsLine (Ok None) said = said ≡ Skipped
-ReadsLine (Ok (Some call)) said = said ≡ Says (call_of call)
-ReadsLine (Err line_error.Unreadable) said = said ≡ Unreadable
-ReadsLine (Err line_error.Memory) said = Unit {0}
+abbrev pub ReadsLine : ℕ → Result (Option BuildCall) ScriptError → Line → Type 0
+ReadsLine n (Ok None) said = said ≡ Skipped
+ReadsLine n (Ok (Some call)) said = said ≡ Says (call_of call)
+ReadsLine n (Err (script_error.Line m)) said = (m ≡ n) × (said ≡ Unreadable)
+ReadsLine n (Err script_error.Memory) said = Unit {0}
 
 abbrev pub ReadsScript : Result (Vec BuildCall Global) ScriptError → Result (List Call) ℕ → Type 0
 ReadsScript (Ok calls) said = said ≡ Ok (map call_of (vec_items calls))

@@ -3,33 +3,22 @@ use Rattle.std.specs.Prelude.{◌≡◌, ℕ, ◌^◌, ◌<◌, List, [], ◌∷
 use Rattle.std.specs.Int.Signed.{mag}
 use Rattle.std.specs.Fmt.{signed_decimal}
 use Rattle.std.specs.List.{AllByRecursion}
-use Rattle.ir.specs.declared.entities.Block.{Block}
-use Rattle.ir.specs.declared.entities.Inst.{Inst}
-use Rattle.ir.specs.declared.entities.Value.{Value}
+use Rattle.ir.specs.Printed.{block_text, inst_text, value_text}
 use Rattle.calls.specs.Calls.{Call, InstCall, MakeBlock, AppendBlockParam, AppendInst, ClearResults, ChangeToAlias, ResolveAllAliases}
 use Rattle.script.specs.Script.{script_of}
-
-abbrev pub block_word : Block → List ℕ
-block_word block = codes "block" ++ decimal block.0
-
-abbrev pub inst_word : Inst → List ℕ
-inst_word inst = codes "inst" ++ decimal inst.0
-
-abbrev pub value_word : Value → List ℕ
-value_word value = codes "v" ++ decimal value.0
 
 -- the words behind an opcode: the condition, the immediate, the operands, the arrow and the types
 abbrev pub item_words : InstCall → List (List ℕ)
 item_words new =
-    (codes "cc" ++ decimal new.cond) ∷ signed_decimal new.imm ∷ (map value_word new.args ++ codes "->" ∷ map decimal new.types)
+    (codes "cc" ++ decimal new.cond) ∷ signed_decimal new.imm ∷ (map value_text new.args ++ codes "->" ∷ map decimal new.types)
 
 -- the words of a call: opcodes, types and conditions by their numbers
 abbrev pub spelled : Call → List (List ℕ)
 spelled MakeBlock = codes "make_block" ∷ []
-spelled (AppendBlockParam block ty) = codes "append_block_param" ∷ block_word block ∷ decimal ty ∷ []
-spelled (AppendInst new) = codes "append_inst" ∷ block_word new.block ∷ decimal new.opcode ∷ item_words new
-spelled (ClearResults inst) = codes "clear_results" ∷ inst_word inst ∷ []
-spelled (ChangeToAlias dest src) = codes "change_to_alias" ∷ value_word dest ∷ value_word src ∷ []
+spelled (AppendBlockParam block ty) = codes "append_block_param" ∷ block_text block ∷ decimal ty ∷ []
+spelled (AppendInst new) = codes "append_inst" ∷ block_text new.block ∷ decimal new.opcode ∷ item_words new
+spelled (ClearResults inst) = codes "clear_results" ∷ inst_text inst ∷ []
+spelled (ChangeToAlias dest src) = codes "change_to_alias" ∷ value_text dest ∷ value_text src ∷ []
 spelled ResolveAllAliases = codes "resolve_all_aliases" ∷ []
 
 -- words with a space behind each

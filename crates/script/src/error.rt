@@ -1,11 +1,13 @@
-ghost use Rattle.std.specs.Prelude.{◌≡◌};
-ghost use Rattle.script.specs.declared.error.LineError.TheVariants as line_error;
+ghost use Rattle.std.specs.Prelude.{◌≡◌, Some};
+ghost use Rattle.script.specs.Printed.{error_text};
 ghost use Rattle.script.specs.declared.error.ScriptError.TheVariants as script_error;
 
 use std::alloc::{AllocError, AllocFailed};
+use std::error::Error;
+use std::fmt;
 
 /// Why a script is not read.
-#[derive(Clone, Copy, Debug)]
+#[derive(Clone, Copy, PartialEq, Eq, Debug)]
 pub enum ScriptError {
     /// Memory ran out.
     Memory,
@@ -29,25 +31,15 @@ impl<T: Drop> From<AllocFailed<T>> for ScriptError {
     }
 }
 
-/// Why a line is not read.
-#[derive(Clone, Copy)]
-pub(crate) enum LineError {
-    Memory,
-    Unreadable,
-}
+impl fmt::Display for ScriptError {
+    ghost output = { λ e. Some (error_text e) };
 
-impl From<AllocError> for LineError {
-    ghost from_gives = { λ _ r. r ≡ line_error.Memory };
-
-    fn from(_e: AllocError) -> LineError {
-        LineError::Memory
+    fn fmt<W: fmt::Write>(&self, f: &mut fmt::Formatter<W>) -> fmt::Result {
+        match self {
+            ScriptError::Memory => f.write_str("memory ran out"),
+            ScriptError::Line(number) => write!(f, "line {number} cannot be read"),
+        }
     }
 }
 
-impl<T: Drop> From<AllocFailed<T>> for LineError {
-    ghost from_gives = { λ _ r. r ≡ line_error.Memory };
-
-    fn from(_e: AllocFailed<T>) -> LineError {
-        LineError::Memory
-    }
-}
+impl Error for ScriptError {}

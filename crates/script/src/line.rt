@@ -1,172 +1,189 @@
-ghost use Rattle.std.specs.Prelude.{◌≡◌};
-ghost use Rattle.std.specs.Option.{option_map};
+ghost use Rattle.std.specs.Prelude.{◌≡◌, vec_items, [], None, Some, Ok, Err, MatchOption, ok_or, option_map};
+ghost use Rattle.std.specs.Fn.{FnOnceReturnsAt};
 ghost use Rattle.calls.specs.Calls.{call_of, inst_of as call_of_inst};
+ghost use Rattle.script.specs.declared.error.ScriptError.TheVariants as script_error;
 ghost use Rattle.script.specs.Text.{words as words_of, first, others};
-ghost use Rattle.script.specs.Numbers.{and_then, block_of, inst_of, value_of};
-ghost use Rattle.script.specs.Names.{type_of, opcode_of};
-ghost use Rattle.script.specs.Script.{none, inst, call_behind, is_comment, line_of, Reads, ReadsLine};
+ghost use Rattle.script.specs.Script.{once, with_item, items_said, items_of, no_items, types_of, none, inst, call_behind, is_comment, line_of, Reads, ReadsLine};
 
-use crate::error::LineError;
-use crate::items::{Items, read_items, read_types};
-use crate::names::{Keyword, read_keyword, read_opcode, read_type};
+use crate::error::ScriptError;
+use crate::items::{Item, Items, read_item};
+use crate::names::{Keyword, is_name, read_keyword, read_opcode, read_type};
 use crate::numbers::{read_block, read_inst, read_value};
 use crate::text::Words;
 use calls::{BuildCall, NewInst};
-use ir::{Block, Inst, Value};
 use std::alloc::Global;
 
-impl Words<'_> {
-    /// The next word, as a block.
-    fn next_block(&mut self) -> Option<Block>
-        ensures says { result ≡ and_then (first (words_of self.old.rest.now)) block_of }
-        ensures rest { words_of self.new.rest.now ≡ others (words_of self.old.rest.now) }
+/// Reads the words of a line behind the name of the call.
+#[derive(Drop)]
+struct LineReader<'a> {
+    /// Where lists are allocated.
+    heap: Global,
+    /// The number of the line, from 1.
+    number: usize,
+    /// The words that are still to be read.
+    words: Words<'a>,
+}
+
+impl LineReader<'_> {
+    /// That no call is spelled so.
+    fn unreadable(&self) -> ScriptError
+        ensures { result ≡ script_error.Line self.now.number }
     {
-        let word = self.next()?;
-        read_block(word)
+        ScriptError::Line(self.number)
     }
 
-    /// The next word, as an instruction.
-    fn next_inst(&mut self) -> Option<Inst>
-        ensures says { result ≡ and_then (first (words_of self.old.rest.now)) inst_of }
-        ensures rest { words_of self.new.rest.now ≡ others (words_of self.old.rest.now) }
+    /// The next word, as `read` reads it.
+    fn next<T, F: FnOnce(&[u8]) -> Option<T>>(&mut self, read: F) -> Result<T, ScriptError>
+        requires { F.IsAlwaysCallable read }
+        ensures says { MatchOption (first self.old.words) (result ≡ Err (script_error.Line self.old.number)) (λ w. (o : _) × FnOnceReturnsAt F.FnOnce read w o × (result ≡ ok_or o (script_error.Line self.old.number))) }
+        ensures rest { self.new ≡ record self.old { words = others self.old.words } }
     {
-        let word = self.next()?;
-        read_inst(word)
-    }
-
-    /// The next word, as a value.
-    fn next_value(&mut self) -> Option<Value>
-        ensures says { result ≡ and_then (first (words_of self.old.rest.now)) value_of }
-        ensures rest { words_of self.new.rest.now ≡ others (words_of self.old.rest.now) }
-    {
-        let word = self.next()?;
-        read_value(word)
-    }
-
-    /// The next word, as a type.
-    fn next_type(&mut self) -> Option<u16>
-        ensures says { result ≡ and_then (first (words_of self.old.rest.now)) type_of }
-        ensures rest { words_of self.new.rest.now ≡ others (words_of self.old.rest.now) }
-    {
-        let word = self.next()?;
-        read_type(word)
-    }
-
-    /// The next word, as an opcode.
-    fn next_opcode(&mut self) -> Option<u8>
-        ensures says { result ≡ and_then (first (words_of self.old.rest.now)) opcode_of }
-        ensures rest { words_of self.new.rest.now ≡ others (words_of self.old.rest.now) }
-    {
-        let word = self.next()?;
-        read_opcode(word)
+        let word = self.words.next().ok_or(self.unreadable())?;
+        read(word).ok_or(self.unreadable())
     }
 
     /// The call, if no word is left.
-    fn finish(&mut self, call: BuildCall) -> Option<BuildCall>
-        ensures { option_map call_of result ≡ none (call_of call) (words_of self.old.rest.now) }
+    fn finish(&mut self, call: BuildCall) -> Result<BuildCall, ScriptError>
+        ensures { Reads self.old.number call_of result (none (call_of call) self.old.words) }
     {
-        match self.next() {
-            None => Some(call),
-            Some(_) => None,
+        match self.words.next() {
+            None => Ok(call),
+            Some(_) => Err(self.unreadable()),
+        }
+    }
+
+    /// `append_block_param BLOCK TYPE`
+    fn block_param(&mut self) -> Result<BuildCall, ScriptError>
+        ensures { Reads self.old.number call_of result (call_behind Keyword.AppendBlockParam self.old.words) }
+    {
+        let block = self.next(read_block)?;
+        let ty = self.next(read_type)?;
+        self.finish(BuildCall::AppendBlockParam(block, ty))
+    }
+
+    /// `clear_results INST`
+    fn clear(&mut self) -> Result<BuildCall, ScriptError>
+        ensures { Reads self.old.number call_of result (call_behind Keyword.ClearResults self.old.words) }
+    {
+        let inst = self.next(read_inst)?;
+        self.finish(BuildCall::ClearResults(inst))
+    }
+
+    /// `change_to_alias VALUE VALUE`
+    fn alias(&mut self) -> Result<BuildCall, ScriptError>
+        ensures { Reads self.old.number call_of result (call_behind Keyword.ChangeToAlias self.old.words) }
+    {
+        let dest = self.next(read_value)?;
+        let src = self.next(read_value)?;
+        self.finish(BuildCall::ChangeToAlias(dest, src))
+    }
+
+    /// Puts what may come once in its place, which has to be empty.
+    fn once<T: Drop>(&self, place: &mut Option<T>, x: T) -> Result<(), ScriptError>
+        ensures says { result ≡ ok_or (option_map (λ _. tt) (once place.old x)) (script_error.Line self.now.number) }
+        ensures put { place.new ≡ Some x }
+    {
+        match place.replace(x) {
+            None => Ok(()),
+            Some(_) => Err(self.unreadable()),
+        }
+    }
+
+    /// Adds an item. A second immediate or condition cannot be read.
+    fn add(&self, items: &mut Items, item: Item) -> Result<(), ScriptError>
+        ensures { Reads self.now.number (λ _. items_said items.new) result (with_item (items_said items.old) item) }
+    {
+        match item {
+            Item::Operand(value) => items.args.push(value)?,
+            Item::Immediate(imm) => self.once(&mut items.imm, imm)?,
+            Item::Condition(cond) => self.once(&mut items.cond, cond)?,
+        }
+        Ok(())
+    }
+
+    /// The items up to the arrow. The words behind the arrow are left.
+    fn items(&mut self) -> Result<Items, ScriptError>
+        ensures says { Reads self.old.number (λ items. (items_said items, self.new.words)) result (items_of no_items self.old.words) }
+        ensures same { self.new.number ≡ self.old.number }
+    {
+        let mut items = Items {
+            args: Vec::new(self.heap),
+            imm: None,
+            cond: None,
+        };
+        loop {
+            let word = self.words.next().ok_or(self.unreadable())?;
+            if is_name(word, "->") {
+                return Ok(items);
+            }
+            let item = read_item(word).ok_or(self.unreadable())?;
+            self.add(&mut items, item)?;
+        }
+    }
+
+    /// The numbers of the types that all further words name.
+    fn types(&mut self) -> Result<Vec<u16>, ScriptError>
+        ensures { Reads self.old.number vec_items result (types_of [] self.old.words) }
+    {
+        let mut types = Vec::new(self.heap);
+        let unreadable = self.unreadable();
+        for word in &mut self.words {
+            types.push(read_type(word).ok_or(unreadable)?)?;
+        }
+        Ok(types)
+    }
+
+    /// `append_inst BLOCK OPCODE {ITEM} -> {TYPE}`
+    fn inst(&mut self) -> Result<NewInst, ScriptError>
+        ensures { Reads self.old.number call_of_inst result (inst self.old.words) }
+    {
+        let block = self.next(read_block)?;
+        let opcode = self.next(read_opcode)?;
+        let Items { args, imm, cond } = self.items()?;
+        let types = self.types()?;
+        Ok(NewInst {
+            block,
+            opcode,
+            cond: cond.unwrap_or(0),
+            imm: imm.unwrap_or(0),
+            args,
+            types,
+        })
+    }
+
+    /// The call of the keyword.
+    fn call(&mut self, keyword: Keyword) -> Result<BuildCall, ScriptError>
+        ensures { Reads self.old.number call_of result (call_behind keyword self.old.words) }
+    {
+        match keyword {
+            Keyword::MakeBlock => self.finish(BuildCall::MakeBlock),
+            Keyword::AppendBlockParam => self.block_param(),
+            Keyword::AppendInst => self.inst().map(BuildCall::AppendInst),
+            Keyword::ClearResults => self.clear(),
+            Keyword::ChangeToAlias => self.alias(),
+            Keyword::ResolveAllAliases => self.finish(BuildCall::ResolveAllAliases),
         }
     }
 }
 
-/// `append_block_param BLOCK TYPE`
-fn read_block_param(words: &mut Words) -> Option<BuildCall>
-    ensures { option_map call_of result ≡ call_behind Keyword.AppendBlockParam (words_of words.old.rest.now) }
+/// The call of the line of this number, or none where the line is skipped.
+pub(crate) fn read_line(
+    heap: Global,
+    number: usize,
+    line: &[u8],
+) -> Result<Option<BuildCall>, ScriptError>
+    ensures { ReadsLine number result (line_of (words_of line.now)) }
 {
-    let block = words.next_block()?;
-    let ty = words.next_type()?;
-    words.finish(BuildCall::AppendBlockParam(block, ty))
-}
-
-/// `clear_results INST`
-fn read_clear(words: &mut Words) -> Option<BuildCall>
-    ensures { option_map call_of result ≡ call_behind Keyword.ClearResults (words_of words.old.rest.now) }
-{
-    let inst = words.next_inst()?;
-    words.finish(BuildCall::ClearResults(inst))
-}
-
-/// `change_to_alias VALUE VALUE`
-fn read_alias(words: &mut Words) -> Option<BuildCall>
-    ensures { option_map call_of result ≡ call_behind Keyword.ChangeToAlias (words_of words.old.rest.now) }
-{
-    let dest = words.next_value()?;
-    let src = words.next_value()?;
-    words.finish(BuildCall::ChangeToAlias(dest, src))
-}
-
-/// `append_inst BLOCK OPCODE {ITEM} -> {TYPE}`
-fn read_new_inst(heap: Global, words: &mut Words) -> Result<NewInst, LineError>
-    ensures { Reads call_of_inst result (inst (words_of words.old.rest.now)) }
-{
-    let Some(block) = words.next_block() else {
-        return Err(LineError::Unreadable);
+    let mut words = Words::of(line);
+    let word = match words.next() {
+        None | Some([b'#', ..]) => return Ok(None),
+        Some(word) => word,
     };
-    let Some(opcode) = words.next_opcode() else {
-        return Err(LineError::Unreadable);
+    let mut reader = LineReader {
+        heap,
+        number,
+        words,
     };
-    let Items { args, imm, cond } = read_items(heap, words)?;
-    let types = read_types(heap, words)?;
-    Ok(NewInst {
-        block,
-        opcode,
-        cond: cond.unwrap_or(0),
-        imm: imm.unwrap_or(0),
-        args,
-        types,
-    })
-}
-
-/// The call of the keyword, from the words behind it.
-fn read_call(heap: Global, keyword: Keyword, words: &mut Words) -> Result<BuildCall, LineError>
-    ensures { Reads call_of result (call_behind keyword (words_of words.old.rest.now)) }
-{
-    match keyword {
-        Keyword::MakeBlock => words
-            .finish(BuildCall::MakeBlock)
-            .ok_or(LineError::Unreadable),
-        Keyword::AppendBlockParam => read_block_param(words).ok_or(LineError::Unreadable),
-        Keyword::AppendInst => {
-            let new = read_new_inst(heap, words)?;
-            Ok(BuildCall::AppendInst(new))
-        }
-        Keyword::ClearResults => read_clear(words).ok_or(LineError::Unreadable),
-        Keyword::ChangeToAlias => read_alias(words).ok_or(LineError::Unreadable),
-        Keyword::ResolveAllAliases => {
-            words
-                .finish(BuildCall::ResolveAllAliases)
-                .ok_or(LineError::Unreadable)
-        }
-    }
-}
-
-/// Whether a word begins a comment.
-fn is_comment(word: &[u8]) -> bool
-    ensures { result ≡ is_comment word.now }
-{
-    match word {
-        [byte, ..] => *byte == b'#',
-        [] => false,
-    }
-}
-
-/// The call of a line, or none where the line is skipped.
-pub(crate) fn read_line(heap: Global, line: &[u8]) -> Result<Option<BuildCall>, LineError>
-    ensures { ReadsLine result (line_of (words_of line.now)) }
-{
-    let mut words = Words { rest: line };
-    let Some(word) = words.next() else {
-        return Ok(None);
-    };
-    if is_comment(word) {
-        return Ok(None);
-    }
-    let Some(keyword) = read_keyword(word) else {
-        return Err(LineError::Unreadable);
-    };
-    let call = read_call(heap, keyword, &mut words)?;
-    Ok(Some(call))
+    let keyword = read_keyword(word).ok_or(reader.unreadable())?;
+    Ok(Some(reader.call(keyword)?))
 }

@@ -1,9 +1,8 @@
-ghost use Rattle.std.specs.Prelude.{◌≡◌};
+ghost use Rattle.std.specs.Prelude.{◌≡◌, map};
 ghost use Rattle.std.specs.Str.{bytes_eq};
-ghost use Rattle.ir.specs.Codes.{opcode_at, opcode_name, intcc_at, intcc_name};
-ghost use Rattle.script.specs.Names.{keyword_of, type_named, type_of, is_named, opcode_named, opcode_of, condition_named, condition_of};
+ghost use Rattle.script.specs.Names.{named, keyword_of, type_of, opcode_of, condition_of};
 
-use crate::numbers::{read_decimal, strip};
+use crate::numbers::{read_number, strip};
 use ir::{IntCC, Opcode};
 
 /// The name of a building call.
@@ -17,11 +16,24 @@ pub(crate) enum Keyword {
     ResolveAllAliases,
 }
 
-/// How many opcodes there are.
-const OPCODES: u8 = 26;
+/// The building calls by their names.
+const KEYWORDS: [(&str, Keyword); 6] = [
+    ("make_block", Keyword::MakeBlock),
+    ("append_block_param", Keyword::AppendBlockParam),
+    ("append_inst", Keyword::AppendInst),
+    ("clear_results", Keyword::ClearResults),
+    ("change_to_alias", Keyword::ChangeToAlias),
+    ("resolve_all_aliases", Keyword::ResolveAllAliases),
+];
 
-/// How many conditions there are.
-const CONDITIONS: u8 = 10;
+/// The numbers of the types that have a name.
+const TYPES: [(&str, u16); 5] = [
+    ("i8", 8),
+    ("i16", 16),
+    ("i32", 32),
+    ("i64", 64),
+    ("other", 1),
+];
 
 /// Whether the word is the name.
 pub(crate) fn is_name(word: &[u8], name: &str) -> bool
@@ -30,120 +42,48 @@ pub(crate) fn is_name(word: &[u8], name: &str) -> bool
     word == name.as_bytes()
 }
 
+/// What the word names in a table.
+fn look_up<T: Copy>(table: &[(&str, T)], word: &[u8]) -> Option<T>
+    ensures { result ≡ named (map (λ entry. (entry.0.now, entry.1)) table.now) word.now }
+{
+    table
+        .iter()
+        .find(|(name, _)| is_name(word, name))
+        .map(|(_, x)| *x)
+}
+
 /// The building call that the word names.
 pub(crate) fn read_keyword(word: &[u8]) -> Option<Keyword>
     ensures { result ≡ keyword_of word.now }
 {
-    if is_name(word, "make_block") {
-        Some(Keyword::MakeBlock)
-    } else if is_name(word, "append_block_param") {
-        Some(Keyword::AppendBlockParam)
-    } else if is_name(word, "append_inst") {
-        Some(Keyword::AppendInst)
-    } else if is_name(word, "clear_results") {
-        Some(Keyword::ClearResults)
-    } else if is_name(word, "change_to_alias") {
-        Some(Keyword::ChangeToAlias)
-    } else if is_name(word, "resolve_all_aliases") {
-        Some(Keyword::ResolveAllAliases)
-    } else {
-        None
-    }
-}
-
-/// The number of the type that the word names.
-fn type_named(word: &[u8]) -> Option<u16>
-    ensures { result ≡ type_named word.now }
-{
-    if is_name(word, "i8") {
-        Some(8)
-    } else if is_name(word, "i16") {
-        Some(16)
-    } else if is_name(word, "i32") {
-        Some(32)
-    } else if is_name(word, "i64") {
-        Some(64)
-    } else if is_name(word, "other") {
-        Some(1)
-    } else {
-        None
-    }
+    look_up(&KEYWORDS, word)
 }
 
 /// The number of a type, from its name or from the number itself.
 pub(crate) fn read_type(word: &[u8]) -> Option<u16>
     ensures { result ≡ type_of word.now }
 {
-    if let Some(ty) = type_named(word) {
-        return Some(ty);
-    }
-    let n = read_decimal(word, 65_536)?;
-    Some(n as u16)
-}
-
-/// Whether the word is the name of the opcode that has the code.
-fn is_opcode(word: &[u8], code: u8) -> bool
-    ensures { result ≡ is_named opcode_name (opcode_at code) word.now }
-{
-    match Opcode::from_code(code) {
-        Some(opcode) => is_name(word, opcode.name()),
-        None => false,
-    }
-}
-
-/// The code of the opcode that the word names.
-fn opcode_named(word: &[u8]) -> Option<u8>
-    ensures { result ≡ opcode_named word.now }
-{
-    for code in 0..OPCODES {
-        if is_opcode(word, code) {
-            return Some(code);
-        }
-    }
-    None
+    look_up(&TYPES, word).or_else(|| read_number(word))
 }
 
 /// The code of an opcode, from its name or from the code itself.
 pub(crate) fn read_opcode(word: &[u8]) -> Option<u8>
     ensures { result ≡ opcode_of word.now }
 {
-    if let Some(code) = opcode_named(word) {
-        return Some(code);
-    }
-    let n = read_decimal(word, 256)?;
-    Some(n as u8)
-}
-
-/// Whether the word is the name of the condition that has the code.
-fn is_condition(word: &[u8], code: u8) -> bool
-    ensures { result ≡ is_named intcc_name (intcc_at code) word.now }
-{
-    match IntCC::from_code(code) {
-        Some(cond) => is_name(word, cond.name()),
-        None => false,
-    }
-}
-
-/// The code of the condition that the word names.
-fn condition_named(word: &[u8]) -> Option<u8>
-    ensures { result ≡ condition_named word.now }
-{
-    for code in 0..CONDITIONS {
-        if is_condition(word, code) {
-            return Some(code);
-        }
-    }
-    None
+    Opcode::ALL
+        .iter()
+        .find(|o| is_name(word, o.name()))
+        .map(|o| u8::from(*o))
+        .or_else(|| read_number(word))
 }
 
 /// The code of a condition, from its name or from the code behind `cc`.
 pub(crate) fn read_condition(word: &[u8]) -> Option<u8>
     ensures { result ≡ condition_of word.now }
 {
-    if let Some(code) = condition_named(word) {
-        return Some(code);
-    }
-    let digits = strip(word, "cc")?;
-    let n = read_decimal(digits, 256)?;
-    Some(n as u8)
+    IntCC::ALL
+        .iter()
+        .find(|c| is_name(word, c.name()))
+        .map(|c| u8::from(*c))
+        .or_else(|| read_number(strip(word, "cc")?))
 }

@@ -1,49 +1,36 @@
-ghost use Rattle.std.specs.Prelude.{◌≡◌, ◌+◌, ◌-◌, ◌*◌, true};
+ghost use Rattle.std.specs.Prelude.{◌≡◌, ◌+◌, ◌-◌, ◌*◌, ◌^◌, cond, Some, None, [], ◌∷◌, MatchOption};
 ghost use Rattle.std.specs.Option.{option_map};
-ghost use Rattle.script.specs.Numbers.{is_digit, number, behind, numbered, block_of, inst_of, value_of, immediate_of};
+ghost use Rattle.std.specs.Result.{result_ok};
+ghost use Rattle.script.specs.Numbers.{below, decimal_after, number, behind, numbered, block_of, inst_of, value_of, immediate_of};
 
 use ir::{Block, Inst, Value};
 
-/// How many numbers an entity can have.
-const ENTITIES: u64 = 4_294_967_296;
-
-/// The magnitude of the lowest immediate.
-const LOWEST: u64 = 9_223_372_036_854_775_808;
-
-/// Whether a byte is a decimal digit.
-fn is_digit(byte: u8) -> bool
-    ensures { result ≡ is_digit byte }
+/// The number that a digit writes behind those that write `n`, if it is below 2^64.
+fn with_digit(n: u64, byte: u8) -> Option<u64>
+    ensures { result ≡ below (2 ^ 64) (decimal_after n (byte ∷ [])) }
 {
-    byte >= b'0' && byte <= b'9'
+    let digit = char::from(byte).to_digit(10)?;
+    n.checked_mul(10)?.checked_add(u64::from(digit))
 }
 
-/// The number that a digit writes behind those that write `n`.
-fn with_digit(n: u64, byte: u8) -> u128
-    requires { is_digit byte ≡ true }
-    ensures { result ≡ n * 10 + (byte - 48) }
-{
-    n as u128 * 10 + (byte - b'0') as u128
-}
-
-/// The decimal number below the limit that the word writes.
-pub(crate) fn read_decimal(word: &[u8], limit: u64) -> Option<u64>
-    ensures { result ≡ number limit word.now }
+/// The decimal number that the word writes, if it is below 2^64.
+fn read_decimal(word: &[u8]) -> Option<u64>
+    ensures { result ≡ number (2 ^ 64) word.now }
 {
     if word.is_empty() {
         return None;
     }
-    let mut n: u64 = 0;
-    for byte in word {
-        if !is_digit(*byte) {
-            return None;
-        }
-        let more = with_digit(n, *byte);
-        if more >= limit as u128 {
-            return None;
-        }
-        n = more as u64;
-    }
-    Some(n)
+    word.iter().try_fold(0, |n, byte| with_digit(n, *byte))
+}
+
+/// The decimal number that the word writes, if it fits its type.
+pub(crate) fn read_number<T: TryFrom<u64>>(word: &[u8]) -> Option<T>
+where
+    T::Error: Drop,
+    ensures { MatchOption (number (2 ^ 64) word.now) (result ≡ None) (λ n. (r : _) × T.try_from_gives n r × (result ≡ result_ok r)) }
+{
+    let n = read_decimal(word)?;
+    T::try_from(n).ok()
 }
 
 /// What stands behind the prefix.
@@ -57,33 +44,28 @@ pub(crate) fn strip<'a>(word: &'a [u8], prefix: &str) -> Option<&'a [u8]>
 fn read_entity(word: &[u8], prefix: &str) -> Option<u32>
     ensures { result ≡ numbered prefix.now word.now }
 {
-    let digits = strip(word, prefix)?;
-    let n = read_decimal(digits, ENTITIES)?;
-    Some(n as u32)
+    read_number(strip(word, prefix)?)
 }
 
 /// The block that the word names.
 pub(crate) fn read_block(word: &[u8]) -> Option<Block>
     ensures { result ≡ block_of word.now }
 {
-    let n = read_entity(word, "block")?;
-    Some(Block(n))
+    read_entity(word, "block").map(Block)
 }
 
 /// The instruction that the word names.
 pub(crate) fn read_inst(word: &[u8]) -> Option<Inst>
     ensures { result ≡ inst_of word.now }
 {
-    let n = read_entity(word, "inst")?;
-    Some(Inst(n))
+    read_entity(word, "inst").map(Inst)
 }
 
 /// The value that the word names.
 pub(crate) fn read_value(word: &[u8]) -> Option<Value>
     ensures { result ≡ value_of word.now }
 {
-    let n = read_entity(word, "v")?;
-    Some(Value(n))
+    read_entity(word, "v").map(Value)
 }
 
 /// The immediate that the word writes.
@@ -91,17 +73,7 @@ pub(crate) fn read_immediate(word: &[u8]) -> Option<i64>
     ensures { result ≡ immediate_of word.now }
 {
     match strip(word, "-") {
-        None => {
-            let n = read_decimal(word, LOWEST)?;
-            Some(n as i64)
-        }
-        Some(digits) => {
-            let n = read_decimal(digits, LOWEST + 1)?;
-            if n == 0 {
-                Some(0)
-            } else {
-                Some(-1 - (n - 1) as i64)
-            }
-        }
+        None => read_number(word),
+        Some(digits) => 0i64.checked_sub_unsigned(read_decimal(digits)?),
     }
 }

@@ -1,12 +1,14 @@
-ghost use Rattle.std.specs.Prelude.{◌≡◌, ◌-◌, ◌<◌, ◌≤◌, true, false, [], ◌∷◌, length, take, drop, slice_index, slice_index_or};
-ghost use Rattle.std.specs.Option.{option_map};
-ghost use Rattle.script.specs.Text.{is_space, is_feed, before, words, lines, lines_after, first, others};
+ghost use Rattle.std.specs.Prelude.{◌≡◌, ◌-◌, ◌≤◌, [], length, slice_index_or};
+ghost use Rattle.std.specs.Iterator.{YieldsFirstRef, item_count};
+ghost use Rattle.script.specs.Text.{is_space, is_feed, words, lines};
+
+use std::marker::Model;
 
 /// Whether a byte separates words: a space, a tab or a carriage return.
 fn is_space(byte: u8) -> bool
     ensures { result ≡ is_space byte }
 {
-    byte == b' ' || byte == b'\t' || byte == b'\r'
+    matches!(byte, b' ' | b'\t' | b'\r')
 }
 
 /// Whether a byte ends a line.
@@ -16,74 +18,88 @@ fn is_feed(byte: u8) -> bool
     byte == b'\n'
 }
 
-/// How many spaces stand in front.
-fn space_len(bytes: &[u8]) -> usize
-    ensures within { result ≤ length bytes.now }
-    ensures same { words (drop result bytes.now) ≡ words bytes.now }
-    ensures stops { result < length bytes.now → is_space (slice_index bytes.now result) ≡ false }
-{
-    let mut n = 0;
-    while n < bytes.len() && is_space(bytes[n]) {
-        n += 1;
-    }
-    n
-}
-
-/// How many bytes stand before the first space.
-fn word_len(bytes: &[u8]) -> usize
-    ensures within { result ≤ length bytes.now }
-    ensures cut { words bytes.now ≡ before (take result bytes.now) (words (drop result bytes.now)) }
-    ensures stops { result < length bytes.now → is_space (slice_index bytes.now result) ≡ true }
-{
-    let mut n = 0;
-    while n < bytes.len() && !is_space(bytes[n]) {
-        n += 1;
-    }
-    n
-}
-
-/// The words of a line that are still to be read.
-#[derive(Clone, Copy)]
+/// The words of a line that are still to be read, one after another.
+#[derive(Drop)]
 pub(crate) struct Words<'a> {
-    pub(crate) rest: &'a [u8],
+    rest: &'a [u8],
+}
+
+impl<'a> Model for Words<'a> {
+    ghost use Rattle.std.specs.Prelude.{ℕ, List};
+    ghost use Rattle.script.specs.Text.{words};
+
+    ghost Value = { List (List ℕ) };
+
+    ghost view = { λ s. words s.rest.now };
 }
 
 impl<'a> Words<'a> {
-    /// The next word, if there is one.
-    pub(crate) fn next(&mut self) -> Option<&'a [u8]>
-        ensures word { option_map (λ x. x.now) result ≡ first (words self.old.rest.now) }
-        ensures rest { words self.new.rest.now ≡ others (words self.old.rest.now) }
+    /// The words of a line.
+    pub(crate) fn of(line: &'a [u8]) -> Words<'a>
+        ensures { result ≡ words line.now }
     {
-        let (_, rest) = self.rest.split_at(space_len(self.rest));
-        let (word, after) = rest.split_at(word_len(rest));
+        Words { rest: line }
+    }
+}
+
+impl<'a> Iterator for Words<'a> {
+    type Item = &'a [u8];
+
+    ghost next_gives = { YieldsFirstRef (λ s. s) };
+
+    ghost remaining = { item_count (λ s. s) };
+
+    fn next(&mut self) -> Option<&'a [u8]> {
+        let start = self.rest.iter().position(|b| !is_space(*b))?;
+        let rest = &self.rest[start..];
+        let end = rest.iter().position(|b| is_space(*b)).unwrap_or(rest.len());
+        let (word, after) = rest.split_at(end);
         self.rest = after;
-        if word.is_empty() { None } else { Some(word) }
+        Some(word)
     }
 }
 
-/// How many bytes stand before the first line feed.
-fn line_len(bytes: &[u8]) -> usize
-    ensures within { result ≤ length bytes.now }
-    ensures cut { lines bytes.now ≡ lines_after (take result bytes.now) (drop result bytes.now) }
-    ensures stops { result < length bytes.now → is_feed (slice_index bytes.now result) ≡ true }
-{
-    let mut n = 0;
-    while n < bytes.len() && !is_feed(bytes[n]) {
-        n += 1;
-    }
-    n
+/// The lines of a text that are still to be read, one after another.
+#[derive(Drop)]
+pub(crate) struct Lines<'a> {
+    rest: &'a [u8],
 }
 
-/// The first line of a text that is not empty, and the text behind it.
-pub(crate) fn cut_line<'a>(text: &'a [u8]) -> (&'a [u8], &'a [u8])
-    requires { 0 < length text.now }
-    ensures cut { lines text.now ≡ result.0.now ∷ lines result.1.now }
-    ensures shorter { length result.1.now < length text.now }
-{
-    let (line, rest) = text.split_at(line_len(text));
-    match rest {
-        [] => (line, rest),
-        [_, after @ ..] => (line, after),
+impl<'a> Model for Lines<'a> {
+    ghost use Rattle.std.specs.Prelude.{ℕ, List};
+    ghost use Rattle.script.specs.Text.{lines};
+
+    ghost Value = { List (List ℕ) };
+
+    ghost view = { λ s. lines s.rest.now };
+}
+
+impl<'a> Lines<'a> {
+    /// The lines of a text, which are no more than its bytes.
+    #[tactic(auto, using(crate::proofs::Pieces::lines_few))]
+    pub(crate) fn of(text: &'a [u8]) -> Lines<'a>
+        ensures value { result ≡ lines text.now }
+        ensures few { length result ≤ length text.now }
+    {
+        Lines { rest: text }
+    }
+}
+
+impl<'a> Iterator for Lines<'a> {
+    type Item = &'a [u8];
+
+    ghost next_gives = { YieldsFirstRef (λ s. s) };
+
+    ghost remaining = { item_count (λ s. s) };
+
+    fn next(&mut self) -> Option<&'a [u8]> {
+        if self.rest.is_empty() {
+            return None;
+        }
+        let mut parts = self.rest.splitn(2, |b| is_feed(*b));
+        let line = parts.next()?;
+        self.rest = parts.next().unwrap_or(&[]);
+        Some(line)
     }
 }
 
@@ -91,15 +107,5 @@ pub(crate) fn cut_line<'a>(text: &'a [u8]) -> (&'a [u8], &'a [u8])
 pub fn line_at<'a>(text: &'a [u8], number: usize) -> &'a [u8]
     ensures { result.now ≡ slice_index_or (lines text.now) (number - 1) [] }
 {
-    let mut before = number.saturating_sub(1);
-    let mut rest = text;
-    while !rest.is_empty() {
-        let (line, after) = cut_line(rest);
-        if before == 0 {
-            return line;
-        }
-        before -= 1;
-        rest = after;
-    }
-    rest
+    Lines::of(text).nth(number.saturating_sub(1)).unwrap_or(&[])
 }

@@ -1,10 +1,11 @@
-use Rattle.std.proofs.Common.{[], get_or, sym, ap, ◌∙◌}
-use Rattle.std.proofs.lemmas.List.{nil_from_length}
-use Rattle.std.proofs.lemmas.Bool.{eqb-true}
+use Rattle.std.proofs.Common.{ap, refl, slice_get, ◌∙◌, ◌-◌}
+use Rattle.std.proofs.lemmas.Iterator.Consumers.{nth_from_yields_List, YieldsList-from_first}
 use Rattle.script.specs.Text.{lines}
+use Rattle.script.proofs.Pieces.{line_or}
 use Rattle.script.proofs.text.line_at.Goals as goal
 
 pub returns : goal.returns
 returns c =
-    let none = nil_from_length c.loop-rest.rest.now (eqb-true _ _ (sym c.loop-rest-test.ensures)) in
-    none ∙ sym (ap (λ l. get_or (lines l) c.loop-rest.before []) none) ∙ c.loop-rest.invariant
+    let ls = lines c.args.text.now in
+    let found = nth_from_yields_List c.nth.result _ _ c.nth.ensures.ran (YieldsList-from_first (λ x. x.now) (λ s. s) ls c.of.ensures.value) in
+    ap (λ x. x.now) c.unwrap_or.ensures ∙ line_or ls (c.args.number - 1) c.nth.result _ refl (found ∙ ap (slice_get ls) c.saturating_sub.ensures)
