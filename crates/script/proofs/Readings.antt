@@ -1,4 +1,4 @@
--- How a loop over digits comes to a number, and what stands behind a prefix. Assumes nothing.
+-- How a fold over digits comes to a number, what stands behind a prefix, and what a search finds in a table. Assumes nothing.
 use Rattle.std.proofs.Common.{◌≡◌, ℕ, ◌+◌, ◌-◌, ◌*◌, ◌^◌, ◌<◌, ◌≤◌, nat_le, Bool, eqb, List, [], ◌∷◌, ◌++◌, map, length, Some, None, Option, sym, refl, ap, subst, ◌∙◌, ⊎_elim, arith, Bor, MatchOption}
 use denote.Param.Members.{Mut}
 use Rattle.std.specs.ControlFlow.{continue_value}

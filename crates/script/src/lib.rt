@@ -42,7 +42,8 @@
 //! `specs/` says all this once more, as a grammar over bytes: `Text` the lines and words, `Numbers` the numbers and
 //! entities, `Names` the names, `Script` the calls and the lines. [`read_script`] is proved to answer what `script_of`
 //! there says of the text, whatever the text, unless memory runs out. [`script_stands`] is the theorem that every list of
-//! calls whose numbers fit their types can be written, and reads as itself; `Spelled` says how it is written.
+//! calls whose numbers fit their types can be written, and reads as itself; `Spelled` says how it is written. `Printed` says
+//! how a [`ScriptError`] is told.
 #![tactic(auto)]
 
 pub mod error;

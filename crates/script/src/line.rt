@@ -38,8 +38,7 @@ impl LineReader<'_> {
         ensures says { MatchOption (first self.old.words) (result ≡ Err (script_error.Line self.old.number)) (λ w. (o : _) × FnOnceReturnsAt F.FnOnce read w o × (result ≡ ok_or o (script_error.Line self.old.number))) }
         ensures rest { self.new ≡ record self.old { words = others self.old.words } }
     {
-        let word = self.words.next().ok_or(self.unreadable())?;
-        read(word).ok_or(self.unreadable())
+        self.words.next().and_then(read).ok_or(self.unreadable())
     }
 
     /// The call, if no word is left.

@@ -1,6 +1,6 @@
 ghost use Rattle.std.specs.Prelude.{◌≡◌, ◌-◌, ◌≤◌, [], length, slice_index_or};
 ghost use Rattle.std.specs.Iterator.{YieldsFirstRef, item_count};
-ghost use Rattle.script.specs.Text.{is_space, is_feed, words, lines};
+ghost use Rattle.script.specs.Text.{is_space, words, lines};
 
 use std::marker::Model;
 
@@ -9,13 +9,6 @@ fn is_space(byte: u8) -> bool
     ensures { result ≡ is_space byte }
 {
     matches!(byte, b' ' | b'\t' | b'\r')
-}
-
-/// Whether a byte ends a line.
-fn is_feed(byte: u8) -> bool
-    ensures { result ≡ is_feed byte }
-{
-    byte == b'\n'
 }
 
 /// The words of a line that are still to be read, one after another.
@@ -96,7 +89,7 @@ impl<'a> Iterator for Lines<'a> {
         if self.rest.is_empty() {
             return None;
         }
-        let mut parts = self.rest.splitn(2, |b| is_feed(*b));
+        let mut parts = self.rest.splitn(2, |b| *b == b'\n');
         let line = parts.next()?;
         self.rest = parts.next().unwrap_or(&[]);
         Some(line)
@@ -104,7 +97,7 @@ impl<'a> Iterator for Lines<'a> {
 }
 
 /// The line of a number, from 1, and nothing where the text has fewer lines. For 0 it is the first.
-pub fn line_at<'a>(text: &'a [u8], number: usize) -> &'a [u8]
+pub fn line_at(text: &[u8], number: usize) -> &[u8]
     ensures { result.now ≡ slice_index_or (lines text.now) (number - 1) [] }
 {
     Lines::of(text).nth(number.saturating_sub(1)).unwrap_or(&[])
