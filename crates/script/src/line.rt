@@ -35,7 +35,7 @@ impl LineReader<'_> {
     /// The next word, as `read` reads it.
     fn next<T, F: FnOnce(&[u8]) -> Option<T>>(&mut self, read: F) -> Result<T, ScriptError>
         requires { F.IsAlwaysCallable read }
-        ensures says { MatchOption (first self.old.words) (result ≡ Err (script_error.Line self.old.number)) (λ w. (o : _) × FnOnceReturnsAt F.FnOnce read w o × (result ≡ ok_or o (script_error.Line self.old.number))) }
+        ensures says { let e = script_error.Line self.old.number in MatchOption (first self.old.words) (result ≡ Err e) (λ w. (o : _) × FnOnceReturnsAt F.FnOnce read w o × (result ≡ ok_or o e)) }
         ensures rest { self.new ≡ record self.old { words = others self.old.words } }
     {
         self.words.next().and_then(read).ok_or(self.unreadable())
