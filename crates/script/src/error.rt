@@ -15,6 +15,7 @@ pub enum ScriptError {
     Line(usize),
 }
 
+// Memory runs out by two errors of std, and `?` takes one impl for each.
 impl From<AllocError> for ScriptError {
     ghost from_gives = { λ _ r. r ≡ script_error.Memory };
 

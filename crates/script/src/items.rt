@@ -6,7 +6,7 @@ use crate::numbers::{read_immediate, read_value};
 use ir::Value;
 
 /// What a word between an opcode and the arrow says.
-#[derive(Clone, Copy)]
+#[derive(Clone, Copy, PartialEq, Eq, Debug)]
 pub(crate) enum Item {
     Operand(Value),
     Immediate(i64),
@@ -15,7 +15,7 @@ pub(crate) enum Item {
 }
 
 /// What the words between an opcode and the arrow say.
-#[derive(Drop)]
+#[derive(PartialEq, Eq, Debug, Drop)]
 pub(crate) struct Items {
     pub(crate) args: Vec<Value>,
     pub(crate) imm: Option<i64>,

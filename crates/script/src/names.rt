@@ -6,7 +6,7 @@ use crate::numbers::{read_number, strip};
 use ir::{IntCC, Opcode};
 
 /// The name of a building call.
-#[derive(Clone, Copy)]
+#[derive(Clone, Copy, PartialEq, Eq, Debug)]
 pub(crate) enum Keyword {
     MakeBlock,
     AppendBlockParam,
@@ -58,6 +58,8 @@ pub(crate) fn read_keyword(word: &[u8]) -> Option<Keyword>
 {
     look_up(&KEYWORDS, word)
 }
+
+// Types, opcodes and conditions stay numbers here: whether they exist is for the graph to judge, as a call carries them.
 
 /// The number of a type, from its name or from the number itself.
 pub(crate) fn read_type(word: &[u8]) -> Option<u16>
