@@ -1,9 +1,9 @@
-ghost use Rattle.std.specs.Prelude.{◌≡◌, vec_items, [], None, Some, Ok, Err, MatchOption, ok_or, option_map};
+ghost use Rattle.std.specs.Prelude.{◌≡◌, vec_items, [], Some, Err, MatchOption, ok_or, option_map};
 ghost use Rattle.std.specs.Fn.{FnOnceReturnsAt};
 ghost use Rattle.calls.specs.Calls.{call_of, inst_of as call_of_inst};
 ghost use Rattle.script.specs.declared.error.ScriptError.TheVariants as script_error;
 ghost use Rattle.script.specs.Text.{words as words_of, first, others};
-ghost use Rattle.script.specs.Script.{once, with_item, items_said, items_of, no_items, types_of, none, inst, call_behind, is_comment, line_of, Reads, ReadsLine};
+ghost use Rattle.script.specs.Script.{once, with_item, items_said, items_of, no_items, types_of, none, inst, call_behind, line_of, Reads, ReadsLine};
 
 use crate::error::ScriptError;
 use crate::items::{Item, Items, read_item};
