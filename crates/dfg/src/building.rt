@@ -32,7 +32,7 @@ impl DataFlowGraph {
             return Err(refuse(Cause::TableFull));
         }
         let block = Block(self.tables.blocks);
-        self.tables.blocks += 1;
+        self.tables.push_block();
         Ok(block)
     }
 

@@ -1,7 +1,6 @@
 // Why a building call is refused.
 ghost use Rattle.std.specs.Prelude.{◌≡◌, ◌+◌, ◌||◌, length, nat_le, nat_lt};
 ghost use Rattle.rows.specs.Rows.{value_at, inst_at, type_in, width_at, live, all_live, widths_of, original, lists};
-ghost use Rattle.rows.specs.WellFormed.{Few, Settled};
 ghost use Rattle.calls.specs.Calls.{AppendInst, ChangeToAlias, inst_of};
 ghost use Rattle.plain.specs.Attached.{attached};
 ghost use Rattle.dfg.specs.Held.{held};
@@ -82,7 +81,6 @@ impl Tables {
 
     /// The end of a value's aliases.
     pub(crate) fn resolve_aliases(&self, value: Value) -> Value
-        requires { Settled (held self.now).values }
         ensures { result.0 ≡ original (held self.now) value.0 }
     {
         let mut v = value;
@@ -118,7 +116,6 @@ impl Tables {
 
     /// Whether there is no room for another instruction with so many results.
     fn is_full(&self, results: usize) -> bool
-        requires few { Few (held self.now) }
         ensures { result ≡ (nat_le 1024 (length (held self.now).insts) || nat_lt 1024 (length (held self.now).values + results)) }
     {
         self.insts.len() >= 1024 || results > 1024 - self.values.len()
@@ -126,7 +123,6 @@ impl Tables {
 
     /// Why the instruction cannot be appended.
     pub(crate) fn inst_refusal(&self, new: &NewInst) -> Option<Refusal>
-        requires { Few (held self.now) }
         ensures { result ≡ first (checks (held self.now) 1024 (AppendInst (inst_of new.now))) }
     {
         if !names_known(new) {
@@ -158,7 +154,6 @@ impl Tables {
 
     /// Why the value cannot be changed to an alias, whether or not that would make a loop.
     pub(crate) fn alias_refusal(&self, dest: Value, src: Value, marks: usize) -> Option<Refusal>
-        requires { Settled (held self.now).values }
         ensures { result ≡ first (checks (held self.now) marks (ChangeToAlias dest src)) }
     {
         if !(self.is_live(dest) && self.is_live(src)) {

@@ -3,8 +3,6 @@ ghost use Rattle.std.specs.Prelude.{◌≡◌, ◌<◌, true, false, ◌||◌, s
 ghost use Rattle.ir.specs.Entities.{values};
 ghost use Rattle.flow.specs.Meaning.{uses};
 ghost use Rattle.rows.specs.Meaning.{flow as flow_of};
-ghost use Rattle.rows.specs.WellFormed.{Settled};
-ghost use Rattle.dfg.specs.Held.{held};
 ghost use Rattle.dfg.specs.Plain.{plain};
 ghost use Rattle.plain.specs.Loops.{through, any_through, any_of, first_from};
 ghost use Rattle.dfg.specs.Finders.{NoneThrough, none_yet, Marked, unmarked, marked_but};
@@ -20,7 +18,6 @@ use walk::Visitor;
 impl Tables {
     /// Whether a value's aliases lead through `dest`.
     pub(crate) fn leads_through(&self, value: Value, dest: Value) -> bool
-        requires { Settled (held self.now).values }
         ensures { result ≡ through self.now.values.items dest.0 value.0 }
     {
         let mut v = value;

@@ -10,5 +10,4 @@ pub invariant_of-self : goal.invariant_of-self
 invariant_of-self c =
     let g = c.args.self.now in
     let free : first (checks (plain g) 1024 (AppendBlockParam c.args.block c.args.ty)) ≡ None = search rules in
-    let w = subst WellFormed (sym c.push_param.ensures.after) (param_kept (plain g) c.args.block c.args.ty free (g.sound, g.blocks, g.loopless)) in
-    record { room = c.push_param.ensures.room; sound = w.0; blocks = w.1; loopless = w.2 }
+    record { well_formed = subst WellFormed (sym c.push_param.ensures) (param_kept (plain g) c.args.block c.args.ty free g.well_formed) }

@@ -13,12 +13,11 @@ push_inst-requires c =
     let n : InstCall = inst_of c.args.new.now in
     let free : first (checks (plain g) 1024 (AppendInst n)) ≡ None = search rules in
     let a = inst_accepted (plain g) n free in
-    record { room = g.room; insts = a.inst_room; values = a.value_room }
+    record { insts = a.inst_room; few = a.few_results; values = a.value_room }
 
 pub invariant_of-self : goal.invariant_of-self
 invariant_of-self c =
     let g = c.args.self.now in
     let n : InstCall = inst_of c.args.new.now in
     let free : first (checks (plain g) 1024 (AppendInst n)) ≡ None = search rules in
-    let w = subst WellFormed (sym c.push_inst.ensures.after) (inst_kept (plain g) n free (g.sound, g.blocks, g.loopless)) in
-    record { room = c.push_inst.ensures.room; sound = w.0; blocks = w.1; loopless = w.2 }
+    record { well_formed = subst WellFormed (sym c.push_inst.ensures) (inst_kept (plain g) n free g.well_formed) }

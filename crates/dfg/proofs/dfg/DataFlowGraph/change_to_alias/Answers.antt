@@ -23,7 +23,7 @@ loop_refusal-requires c =
     record {
       alive =
           subst (λ v. meaning.live (flow p) v ≡ true) (sym c.resolve_aliases-original.ensures)
-          (live_is p g.sound (original p c.args.src.0) (ap (λ w. ltb 0 w) (original_width p g.sound c.args.src.0) ∙ a.src_live));
+          (live_is p g.well_formed.0 (original p c.args.src.0) (ap (λ w. ltb 0 w) (original_width p g.well_formed.0 c.args.src.0) ∙ a.src_live));
       room = a.room;
     }
 
@@ -39,7 +39,7 @@ returns-in-Some-loop_refusal c =
       after = sym (ap (λ o. fed_unless o p (grown p call)) both);
       value = sym (ap (λ o. answer_unless o tt) both);
       marks = c.loop_refusal.ensures.marks ∙ sym (ap (λ o. swept_unless o c.args.marks.now) free);
-      loops = λ passed. subst (Judged (flow (grown p call))) (ap (λ o. answer_unless o tt) why) (judged p (length c.args.marks.now) c.args.dest c.args.src free (c.args.self.now.sound, c.args.self.now.blocks, c.args.self.now.loopless));
+      loops = λ passed. subst (Judged (flow (grown p call))) (ap (λ o. answer_unless o tt) why) (judged p (length c.args.marks.now) c.args.dest c.args.src free c.args.self.now.well_formed);
     }
 
 pub set_alias-requires : goal.set_alias-requires
@@ -47,7 +47,7 @@ set_alias-requires c =
     let g = c.args.self.now in
     let p : Rows = plain g in
     let a = alias_accepted p (length c.args.marks.now) c.args.dest c.args.src (sym c.alias_refusal.ensures ∙ c.in_default.is) in
-    record { room = g.room; settled = g.sound.4; within = live_in p c.args.dest.0 a.dest_live }
+    record { within = live_in p c.args.dest.0 a.dest_live; other = a.other }
 
 pub invariant_of-self : goal.invariant_of-self
 invariant_of-self c =
@@ -55,10 +55,10 @@ invariant_of-self c =
     let p : Rows = plain g in
     let none : loop_refusal p c.args.dest.0 (original p c.args.src.0) ≡ None =
     ap (loop_refusal p c.args.dest.0) (sym c.resolve_aliases-original.ensures) ∙ sym c.loop_refusal.ensures.refusal ∙ c.in_default-loop_refusal.is in
-    let w = subst WellFormed (sym c.set_alias.ensures.after)
+    let w = subst WellFormed (sym c.set_alias.ensures)
     (alias_kept p (length c.args.marks.now) c.args.dest c.args.src (sym c.alias_refusal.ensures ∙ c.in_default.is)
-    (no_refusal (reaches_through p c.args.dest.0 (original p c.args.src.0)) _ none) (g.sound, g.blocks, g.loopless)) in
-    record { room = c.set_alias.ensures.room; sound = w.0; blocks = w.1; loopless = w.2 }
+    (no_refusal (reaches_through p c.args.dest.0 (original p c.args.src.0)) _ none) g.well_formed) in
+    record { well_formed = w }
 
 pub returns : goal.returns
 returns c =
@@ -69,8 +69,8 @@ returns c =
     ap (loop_refusal p c.args.dest.0) (sym c.resolve_aliases-original.ensures) ∙ sym c.loop_refusal.ensures.refusal ∙ c.in_default-loop_refusal.is in
     let both = ap (λ o. or_else o (loop_refusal p c.args.dest.0 (original p c.args.src.0))) free ∙ none in
     record {
-      after = c.set_alias.ensures.after ∙ sym (ap (λ o. fed_unless o p (grown p call)) both);
+      after = c.set_alias.ensures ∙ sym (ap (λ o. fed_unless o p (grown p call)) both);
       value = sym (ap (λ o. answer_unless o tt) both);
       marks = c.loop_refusal.ensures.marks ∙ sym (ap (λ o. swept_unless o c.args.marks.now) free);
-      loops = λ passed. subst (Judged (flow (grown p call))) (ap (λ o. answer_unless o tt) none) (judged p (length c.args.marks.now) c.args.dest c.args.src free (c.args.self.now.sound, c.args.self.now.blocks, c.args.self.now.loopless));
+      loops = λ passed. subst (Judged (flow (grown p call))) (ap (λ o. answer_unless o tt) none) (judged p (length c.args.marks.now) c.args.dest c.args.src free c.args.self.now.well_formed);
     }

@@ -7,5 +7,4 @@ use Rattle.dfg.proofs.dfg.DataFlowGraph.clear_results.Goals as goal
 pub invariant_of-self : goal.invariant_of-self
 invariant_of-self c =
     let g = c.args.self.now in
-    let w = subst WellFormed (sym c.clear.ensures.after) (clear_kept (plain g) c.args.inst (omega arith) (g.sound, g.blocks, g.loopless)) in
-    record { room = c.clear.ensures.room; sound = w.0; blocks = w.1; loopless = w.2 }
+    record { well_formed = subst WellFormed (sym c.clear.ensures) (clear_kept (plain g) c.args.inst (omega arith) g.well_formed) }

@@ -20,6 +20,6 @@ returns c =
       lowest =
           c.lowest_marked.ensures ∙ ap (λ n. first_from (marked_but marked r) n 0) count
           ∙ first_same (marked_but marked r) (closes p d r) (length p.values) 0
-          (λ u lt. marks_close p d r marked c.mark_reaching-marked.ensures.marked u (omega (arith, g.sound.0.0)));
+          (λ u lt. marks_close p d r marked c.mark_reaching-marked.ensures.marked u (omega (arith, g.well_formed.0.0.0)));
       marks = c.mark_reaching-marked.ensures.marks;
     }

@@ -12,6 +12,6 @@ returns c =
     record {
       marked =
           done.walked.shown.marks (none_marked (plain g) c.args.dest.0)
-          (walk_topological (flow (plain g)) (lawful (plain g) g.sound g.loopless) c.args.root.0 c.requires.alive);
+          (walk_topological (flow (plain g)) (lawful (plain g) g.well_formed.0 g.well_formed.2) c.args.root.0 c.requires.alive);
       marks = done.cleared c.requires.alive c.requires.room;
     }

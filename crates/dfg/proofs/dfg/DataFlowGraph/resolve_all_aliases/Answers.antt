@@ -7,5 +7,4 @@ use Rattle.dfg.proofs.dfg.DataFlowGraph.resolve_all_aliases.Goals as goal
 pub invariant_of-self : goal.invariant_of-self
 invariant_of-self c =
     let g = c.args.self.now in
-    let w = subst WellFormed (sym c.resolve_all.ensures.after) (resolve_kept (plain g) (g.sound, g.blocks, g.loopless)) in
-    record { room = c.resolve_all.ensures.room; sound = w.0; blocks = w.1; loopless = w.2 }
+    record { well_formed = subst WellFormed (sym c.resolve_all.ensures) (resolve_kept (plain g) g.well_formed) }

@@ -6,4 +6,4 @@ use Rattle.dfg.proofs.queries.DataFlowGraphLaidOut.num_insts.Goals as goal
 pub returns : goal.returns
 returns c =
     let g = c.args.self.now in
-    record { count = omega (arith, length_layout (plain g) g.sound, g.tables.insts.ok.0); lawful = laid_out (plain g) g.sound g.blocks }
+    record { count = omega (arith, length_layout (plain g) g.well_formed.0, g.tables.insts.ok.0); lawful = laid_out (plain g) g.well_formed.0 g.well_formed.1 }

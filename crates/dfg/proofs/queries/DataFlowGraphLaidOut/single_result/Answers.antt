@@ -10,7 +10,7 @@ use Rattle.dfg.proofs.queries.DataFlowGraphLaidOut.single_result.Goals as goal
 pub returns-then-i-len : goal.returns-then-i-len
 returns-then-i-len c =
     let g = c.args.self.now in
-    ap Err c.refuse.ensures ∙ sym (asked_inst_past (plain g) g.sound c.args.inst.0 _ (omega (arith, g.tables.insts.ok.0)))
+    ap Err c.refuse.ensures ∙ sym (asked_inst_past (plain g) g.well_formed.0 c.args.inst.0 _ (omega (arith, g.tables.insts.ok.0)))
 
 pub returns : goal.returns
 returns c =
@@ -18,5 +18,5 @@ returns c =
     let p : Rows = plain g in
     let l : c.args.inst.0 < length p.insts = omega (arith, g.tables.insts.ok.0) in
     ap Ok c.single.ensures ∙ ap (λ row. Ok (single_of row.results)) (get_or_read p.insts c.args.inst.0 c.index.result.now l c.index.ensures no_inst)
-    ∙ sym (ap (λ (x : InstRow). Ok x.result) (inst_in p g.sound c.args.inst.0 l))
-    ∙ sym (asked_inst_in p g.sound c.args.inst.0 _ l)
+    ∙ sym (ap (λ (x : InstRow). Ok x.result) (inst_in p g.well_formed.0 c.args.inst.0 l))
+    ∙ sym (asked_inst_in p g.well_formed.0 c.args.inst.0 _ l)
