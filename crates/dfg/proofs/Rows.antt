@@ -7,7 +7,8 @@ use Rattle.rows.specs.declared.value.ValueData.{ValueData}
 use Rattle.rows.specs.declared.value.ValueData.TheVariants.{Inst}
 use Rattle.plain.proofs.Chains.{settled_more, settled_erased}
 use Rattle.plain.proofs.Steps.{rows_end}
-use Rattle.plain.specs.Feed.{type_or, result_rows}
+use Rattle.ir.specs.Codes.{type_or}
+use Rattle.plain.specs.Feed.{result_rows}
 
 -- the rows so far, and the next result's
 rows_more : (types : List ℕ) (n i : ℕ) (t : T.Type) → length types ≤ 2 → i < length types → t ≡ type_or (get_or types i 0)

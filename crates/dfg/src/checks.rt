@@ -4,7 +4,8 @@ ghost use Rattle.rows.specs.Rows.{value_at, inst_at, type_in, width_at, live, al
 ghost use Rattle.calls.specs.Calls.{AppendInst, ChangeToAlias, inst_of};
 ghost use Rattle.plain.specs.Attached.{attached};
 ghost use Rattle.dfg.specs.Held.{held};
-ghost use Rattle.plain.specs.Feed.{first, checks, because};
+ghost use Rattle.ir.specs.Refusals.{first, because};
+ghost use Rattle.plain.specs.Feed.{checks};
 
 use crate::decode::{args_of, first_type, names_known, opcode_of};
 use crate::tables::Tables;

@@ -1,7 +1,8 @@
 // What the codes in a call stand for.
 ghost use Rattle.std.specs.Prelude.{◌≡◌, ◌<◌};
 ghost use Rattle.calls.specs.Calls.{inst_of};
-ghost use Rattle.plain.specs.Feed.{type_or, opcode_of, cond_of, args_of, names_known, types_known, first_type, results_from};
+ghost use Rattle.ir.specs.Codes.{type_or};
+ghost use Rattle.plain.specs.Feed.{opcode_of, cond_of, args_of, names_known, types_known, first_type, results_from};
 
 use calls::NewInst;
 use ir::{IntCC, Opcode, Operands, Type, Value};

@@ -13,7 +13,8 @@ use Rattle.ir.specs.declared.entities.Value.{Value}
 use Rattle.ir.specs.declared.refusal.Refusal.{Refusal}
 use Rattle.rows.specs.Rows.{Rows, all_live, live, width_at, original}
 use Rattle.plain.specs.Attached.{attached}
-use Rattle.plain.specs.Feed.{first, checks, constraints_in, args_of, types_known, first_type, new_widths_fit}
+use Rattle.ir.specs.Refusals.{first}
+use Rattle.plain.specs.Feed.{checks, constraints_in, args_of, types_known, first_type, new_widths_fit}
 use Rattle.calls.specs.Calls.{AppendBlockParam, AppendInst, ChangeToAlias}
 use Rattle.calls.specs.Calls.{InstCall}
 

@@ -15,7 +15,8 @@ use Rattle.rows.specs.declared.value.ValueData.{ValueData}
 use Rattle.rows.specs.declared.value.ValueData.TheVariants.{Deleted}
 use Rattle.calls.specs.Calls.{ChangeToAlias}
 use Rattle.plain.specs.AliasLoops.{InLoop, LowestInLoop, Judged}
-use Rattle.plain.specs.Feed.{first, checks, grown, answer_unless}
+use Rattle.ir.specs.Refusals.{first, answer_unless}
+use Rattle.plain.specs.Feed.{checks, grown}
 use Rattle.plain.specs.Loops.{leads, through, reaches_through, closes, first_from, lowest_in_loop, loop_refusal}
 use Rattle.plain.proofs.Accepted.{alias_accepted}
 use Rattle.plain.proofs.Kept.{alias_kept}

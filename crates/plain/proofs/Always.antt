@@ -8,7 +8,8 @@ use Rattle.rows.specs.WellFormed.{WellFormed}
 use Rattle.rows.proofs.Lawfulness.{lawful, laid_out}
 use Rattle.calls.specs.Calls.{Call, MakeBlock, AppendBlockParam, AppendInst, ClearResults, ChangeToAlias, ResolveAllAliases}
 use Rattle.plain.specs.AliasLoops.{Judged}
-use Rattle.plain.specs.Feed.{first, checks, or_else, last_check, refusal, grown, fed_unless, fed_all, fed, answer_unless}
+use Rattle.ir.specs.Refusals.{first, or_else, answer_unless}
+use Rattle.plain.specs.Feed.{checks, last_check, refusal, grown, fed_unless, fed_all, fed}
 use Rattle.plain.specs.Loops.{loop_refusal, reaches_through}
 use Rattle.plain.specs.Theorems.{StaysWellFormed, AlwaysLawful, AliasesJudged}
 use Rattle.plain.proofs.Accepted.{none_stands}

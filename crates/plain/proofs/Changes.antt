@@ -14,7 +14,8 @@ use Rattle.rows.specs.Rows.{Rows, value_at, inst_at, no_inst, type_in, width_in,
 use Rattle.rows.specs.WellFormed.{Sound, BlocksFit, value_fits, result_fits, fits_with, results_fit}
 use Rattle.rows.proofs.Lawfulness.{live_in, width_follow}
 use Rattle.plain.specs.Attached.{attached, attached_in, cleared, map_args, rewritten}
-use Rattle.plain.specs.Feed.{first, checks, grown}
+use Rattle.ir.specs.Refusals.{first}
+use Rattle.plain.specs.Feed.{checks, grown}
 use Rattle.plain.proofs.Accepted as accepted
 use Rattle.plain.proofs.Chains.{settled_aliased, settled_erased}
 use Rattle.plain.proofs.Growth.{Keeps, OverInsts, over, over_inst, over_param, all_live_kept, arg_widths_kept, listed_kept}

@@ -4,7 +4,8 @@ use Rattle.ir.specs.declared.refusal.Refusal.{Refusal}
 use Rattle.rows.specs.Rows.{Rows}
 use Rattle.calls.specs.Calls.{Call}
 use Rattle.calls.specs.declared.answer.Answer.{Answer}
-use Rattle.plain.specs.Feed.{refusal, fed, fed_all, answer_unless, answered, answer_to, answers_to}
+use Rattle.ir.specs.Refusals.{answer_unless}
+use Rattle.plain.specs.Feed.{refusal, fed, fed_all, answered, answer_to, answers_to}
 
 pub fed_more : (p : Rows) (cs : List Call) (c : Call) → fed_all p (cs ++ c ∷ []) ≡ fed (fed_all p cs) c
 fed_more p [] c = refl

@@ -13,7 +13,8 @@ use Rattle.rows.specs.Rows.{Rows, empty, no_inst, all_live, original}
 use Rattle.rows.specs.WellFormed.{WellFormed}
 use Rattle.rows.proofs.Lawfulness.{lawful}
 use Rattle.rows.proofs.Tables.{longer}
-use Rattle.plain.specs.Feed.{first, checks, grown, inst_row}
+use Rattle.ir.specs.Refusals.{first}
+use Rattle.plain.specs.Feed.{checks, grown, inst_row}
 use Rattle.plain.specs.Loops as loops
 use Rattle.plain.specs.Loops.{reaches_through}
 use Rattle.plain.proofs.Accepted.{inst_accepted}

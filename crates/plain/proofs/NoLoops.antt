@@ -19,7 +19,8 @@ use Rattle.rows.specs.WellFormed.{Sound, value_fits}
 use Rattle.rows.proofs.Aliases.{follow_end}
 use Rattle.rows.proofs.Lawfulness.{node_in, node_past, live_in, def_live, original_in_lem, original_own}
 use Rattle.plain.specs.Attached.{cleared, map_args, rewritten}
-use Rattle.plain.specs.Feed.{first, checks, grown}
+use Rattle.ir.specs.Refusals.{first}
+use Rattle.plain.specs.Feed.{checks, grown}
 use Rattle.plain.specs.Loops.{through}
 use Rattle.plain.proofs.Accepted as accepted
 use Rattle.plain.proofs.Chains.{original_more, original_through, original_past, erased_ends}

@@ -15,7 +15,9 @@ use Rattle.ir.specs.declared.types.Type.TheVariants.{Invalid, Other, I8, I16, I3
 use Rattle.rows.specs.Rows.{Rows, value_at, names, is_alias, inst_at, no_inst, widths_of}
 use Rattle.rows.specs.WellFormed.{Sound, value_fits, result_fits, results_fit}
 use Rattle.plain.specs.Attached.{param_count}
-use Rattle.plain.specs.Feed.{first, checks, grown, type_or, result_rows, results_from, inst_row, types_known, args_of, first_type, constraints_in}
+use Rattle.ir.specs.Codes.{type_or}
+use Rattle.ir.specs.Refusals.{first}
+use Rattle.plain.specs.Feed.{checks, grown, result_rows, results_from, inst_row, types_known, args_of, first_type, constraints_in}
 use Rattle.plain.proofs.Accepted as accepted
 use Rattle.plain.proofs.Chains.{settled_more}
 use Rattle.plain.proofs.Growth.{Grown, Keeps, keeps, values_fit, insts_fit, results_fit_lem, arg_widths_kept, all_live_kept}

@@ -7,7 +7,8 @@ use Rattle.flow.specs.Meaning.{Flow, Reach, NoLoop, uses, has}
 use Rattle.rows.specs.Meaning.{flow}
 use Rattle.rows.specs.Rows.{Rows}
 use Rattle.calls.specs.Calls.{ChangeToAlias}
-use Rattle.plain.specs.Feed.{first, checks, grown}
+use Rattle.ir.specs.Refusals.{first}
+use Rattle.plain.specs.Feed.{checks, grown}
 
 -- a value is in a loop if it uses a value that reaches it
 abbrev pub InLoop : Flow → ℕ → Type 0

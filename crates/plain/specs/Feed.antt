@@ -1,9 +1,10 @@
 -- What each building call does to the plain graph, which is its rows, and what it answers. Assumes nothing.
 use Rattle.std.specs.Prelude.{ℕ, ◌+◌, Bool, true, cond, not, ◌&&◌, ◌||◌, List, [], ◌∷◌, ◌++◌, map, length, is_some, Some, None, Ok, Err, Option, Result, ◌==◌, nat_le, nat_lt, slice_set}
 use Rattle.std.specs.Option.{unwrap_or}
-use Rattle.ir.specs.Codes.{opcode_at, intcc_at, type_at, type_bits}
+use Rattle.ir.specs.Codes.{opcode_at, intcc_at, type_at, type_bits, type_or}
 use Rattle.ir.specs.Constraints.{constraints_of, arg_count_fits, result_count_fits, widths_fit, immediate_fits}
 use Rattle.ir.specs.Entities.{operands_of, too_short}
+use Rattle.ir.specs.Refusals.{because, first, or_else, answer_unless}
 use Rattle.ir.specs.declared.condcodes.IntCC.{IntCC}
 use Rattle.ir.specs.declared.condcodes.IntCC.TheVariants.{Equal}
 use Rattle.ir.specs.declared.constraints.OpcodeConstraints.{OpcodeConstraints}
@@ -31,27 +32,10 @@ use Rattle.calls.specs.Calls.{InstCall, Call, MakeBlock, AppendBlockParam, Appen
 use Rattle.calls.specs.declared.answer.Answer.{Answer}
 use Rattle.calls.specs.declared.answer.Answer.TheVariants as made
 
--- ---- refusals
-
-abbrev pub because : Cause → Refusal
-because why = record { cause = why; place = 0 }
-
--- the first refusal that stands
-abbrev pub first : List (Bool × Refusal) → Option Refusal
-first [] = None
-first (c ∷ cs) = cond c.0 (Some c.1) (first cs)
-
-abbrev pub or_else : Option Refusal → Option Refusal → Option Refusal
-or_else (Some why) rest = Some why
-or_else None rest = rest
-
 -- ---- an instruction to append
 
 -- What its codes and its list of operands stand for. Where one stands for nothing the call is refused, and what is said here for
 -- that case is not read.
-abbrev pub type_or : ℕ → T.Type
-type_or bits = unwrap_or (type_at bits) Invalid
-
 abbrev pub opcode_of : InstCall → Opcode
 opcode_of n = unwrap_or (opcode_at n.opcode) Opaque
 
@@ -194,10 +178,6 @@ answer_to p ResolveAllAliases = made.Done
 abbrev pub fed_unless : Option Refusal → Rows → Rows → Rows
 fed_unless None before after = after
 fed_unless (Some why) before after = before
-
-abbrev pub answer_unless : {A : Type 0} → Option Refusal → A → Result A Refusal
-answer_unless None x = Ok x
-answer_unless (Some why) x = Err why
 
 -- the graph after a call over so many bytes of marks: a refused call changes nothing
 abbrev pub fed_with : ℕ → Rows → Call → Rows

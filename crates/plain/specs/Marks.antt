@@ -3,7 +3,8 @@ use Rattle.std.specs.Prelude.{ℕ, List, ◌++◌, length, drop, replicate, Some
 use Rattle.ir.specs.declared.refusal.Refusal.{Refusal}
 use Rattle.rows.specs.Rows.{Rows}
 use Rattle.calls.specs.Calls.{Call, MakeBlock, AppendBlockParam, AppendInst, ClearResults, ChangeToAlias, ResolveAllAliases}
-use Rattle.plain.specs.Feed.{first, checks}
+use Rattle.ir.specs.Refusals.{first}
+use Rattle.plain.specs.Feed.{checks}
 
 -- the marks after a walk: the first 1,024 are zero, and those behind stay
 abbrev pub swept : List ℕ → List ℕ

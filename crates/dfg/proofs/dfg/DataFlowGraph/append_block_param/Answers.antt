@@ -1,7 +1,8 @@
 use Rattle.std.proofs.Common.{◌≡◌, None, sym, subst, rules}
 use Rattle.rows.specs.WellFormed.{WellFormed}
 use Rattle.dfg.specs.Plain.{plain}
-use Rattle.plain.specs.Feed.{first, checks}
+use Rattle.ir.specs.Refusals.{first}
+use Rattle.plain.specs.Feed.{checks}
 use Rattle.plain.proofs.Kept.{param_kept}
 use Rattle.calls.specs.Calls.{AppendBlockParam}
 use Rattle.dfg.proofs.dfg.DataFlowGraph.append_block_param.Goals as goal

@@ -2,7 +2,8 @@ use Rattle.std.proofs.Common.{◌≡◌, None, sym, subst, rules}
 use Rattle.calls.specs.Calls.{InstCall, AppendInst, inst_of}
 use Rattle.rows.specs.WellFormed.{WellFormed}
 use Rattle.dfg.specs.Plain.{plain}
-use Rattle.plain.specs.Feed.{first, checks}
+use Rattle.ir.specs.Refusals.{first}
+use Rattle.plain.specs.Feed.{checks}
 use Rattle.plain.proofs.Accepted.{inst_accepted}
 use Rattle.plain.proofs.Kept.{inst_kept}
 use Rattle.dfg.proofs.dfg.DataFlowGraph.append_inst.Goals as goal

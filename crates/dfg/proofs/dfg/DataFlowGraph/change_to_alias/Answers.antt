@@ -5,7 +5,8 @@ use Rattle.rows.specs.Rows.{Rows, original}
 use Rattle.rows.specs.WellFormed.{WellFormed}
 use Rattle.rows.proofs.Lawfulness.{live_in, live_is, original_width}
 use Rattle.dfg.specs.Plain.{plain}
-use Rattle.plain.specs.Feed.{first, checks, or_else, fed_unless, answer_unless, grown}
+use Rattle.ir.specs.Refusals.{first, or_else, answer_unless}
+use Rattle.plain.specs.Feed.{checks, fed_unless, grown}
 use Rattle.plain.specs.Marks.{swept_unless}
 use Rattle.plain.specs.Loops.{loop_refusal, reaches_through}
 use Rattle.plain.specs.AliasLoops.{Judged}
