@@ -1,2 +1,4 @@
+pub mod Asking
+pub mod Decoding
 pub mod Marking
 pub mod Rows

@@ -1,9 +1,12 @@
 -- What the visitors that look for loops know after one value more, and after a walk. Assumes nothing.
-use Rattle.std.proofs.Common.{◌≡◌, ℕ, ◌<◌, Bool, true, false, not, ◌&&◌, ◌||◌, eqb, List, [], ◌∷◌, ◌++◌, get_or, set, replicate, Err, sym, ap, ◌∙◌, subst, ⊎_elim, arith, length-set, get_or-set_other, get_or-set_same}
+use Rattle.std.proofs.Common.{◌≡◌, ℕ, ◌<◌, ◌≤◌, Bool, true, false, not, ◌&&◌, ◌||◌, eqb, List, [], ◌∷◌, ◌++◌, get_or, set, replicate, Ok, Err, Result, is_err, Some, unwrap_or, find, zero, suc, ◌+◌, cond, map, sym, ap, ◌∙◌, subst, inl, inr, ⊎_elim, arith, length-set, get_or-set_other, get_or-set_same}
 use lib.ListN.{length-replicate}
 use Rattle.std.proofs.lemmas.List.{get_or-replicate}
-use Rattle.std.proofs.lemmas.Bool.{cases_eq}
-use Rattle.flow.specs.Meaning.{Flow, Lawful, uses, has}
+use Rattle.std.proofs.lemmas.Bool.{cases_eq, cases_Bool, false≢true}
+use Rattle.std.specs.List.{range_with_len}
+use Rattle.ir.specs.Entities.{value}
+use Rattle.ir.specs.declared.entities.Value.{Value}
+use Rattle.flow.specs.Meaning.{Flow, Lawful, live, uses, has}
 use Rattle.flow.specs.Walk.{walk, Topological}
 use Rattle.flow.proofs.Among.{has_push, has_push_other}
 use Rattle.flow.proofs.Paths.{live_exists}
@@ -16,7 +19,7 @@ use Rattle.walk.specs.declared.dfs.WalkError.{WalkError}
 use Rattle.walk.specs.declared.dfs.WalkError.TheVariants as errors
 use Rattle.dfg.specs.declared.finders.Found.{Found}
 use Rattle.dfg.specs.Finders.{MarksOf, Marked, NoneThrough, marked_but}
-use Rattle.plain.specs.Loops.{through, any_through, any_of, reaches_through, closes}
+use Rattle.plain.specs.Loops.{through, any_through, any_of, reaches_through, closes, first_from}
 use Rattle.plain.proofs.Through.{any_push, any_front}
 use Rattle.plain.proofs.Reaching.{any_same, reaches_unfolds}
 
@@ -84,13 +87,34 @@ marked_more p d first shown p' d' before after v b lawful m e is =
 pub none_marked : (p : Rows) (d : ℕ) → MarksOf p d [] (replicate 1024 false)
 none_marked p d = record { long = length-replicate {A = Bool} 1024 false; each = λ u low. get_or-replicate 1024 u false false low }
 
--- a walk that the finder stopped has found such a value
-pub stopped_found : (g : Flow) (root room : ℕ) (Fits : List ℕ → Type 0) (rows : List ValueData) (d : ℕ) (e : WalkError Found) (f : Found) → e ≡ errors.Stopped f
-    → Walked g root room Fits (λ shown s. any_through rows d shown ≡ true) (Err e) → any_through rows d (walk g root) ≡ true
-stopped_found g root room Fits rows d (errors.Refused why) f is w = let z : ◌≡◌ {A = ℕ} 0 1 = cc in absurd (omega arith)
-stopped_found g root room Fits rows d (errors.Stopped s) f is w = ap (any_through rows d) w.parts ∙ any_front rows d w.front w.rest w.stops
+-- the finder stops a walk exactly where it comes to such a value
+pub stopped_if_found : (g : Flow) (root room : ℕ) (Fits : List ℕ → Type 0) (rows : List ValueData) (d : ℕ) (r : Result ℕ (WalkError Found)) → live g root ≡ true
+    → 1024 ≤ room → ((shown : List ℕ) → Fits shown → any_through rows d shown ≡ false) → Walked g root room Fits (λ shown s. any_through rows d shown ≡ true) r
+    → is_err r ≡ any_through rows d (walk g root)
+stopped_if_found g root room Fits rows d (Ok steps) alive enough none w = sym (none (walk g root) w.shown)
+stopped_if_found g root room Fits rows d (Err (errors.Refused why)) alive enough none w =
+    elim w [ inl short ↦ absurd (omega arith) | inr dead ↦ absurd (false≢true (sym dead ∙ alive)) ]
+stopped_if_found g root room Fits rows d (Err (errors.Stopped s)) alive enough none w =
+    sym (ap (any_through rows d) w.parts ∙ any_front rows d w.front w.rest w.stops)
 
 -- the marks of a whole walk tell which values would be in a loop
 pub marks_close : (p : Rows) (d r : ℕ) (marked : List Bool) → MarksOf p d (walk (flow p) r) marked → (u : ℕ) → u < 1024 → marked_but marked r u ≡ closes p d r u
 unfolding closes
 marks_close p d r marked m u low = ap (λ b. not (eqb u r) && b) (m.each u low)
+
+-- ---- the first value that passes a test
+
+pub first_value : (test : ℕ → Bool) (n v m : ℕ) → m ≡ v + n → (unwrap_or (find (λ (w : Value). test w.0) (map value (range_with_len v n))) (value m)).0 ≡ first_from test n v
+unfolding first_from
+first_value test zero v m e = omega (arith, e)
+first_value test (suc n) v m e =
+    let next : v + 1 ≡ suc v = omega arith in
+    let rest = first_value test n (v + 1) m (omega (arith, e)) in
+    elim (cases_Bool (test v)) [
+      | inl h ↦
+          ap (λ b. (unwrap_or (cond b (Some (value v)) (find (λ (w : Value). test w.0) (map value (range_with_len (v + 1) n)))) (value m)).0) h
+          ∙ sym (ap (λ b. cond b v (first_from test n (suc v))) h)
+      | inr h ↦
+          ap (λ b. (unwrap_or (cond b (Some (value v)) (find (λ (w : Value). test w.0) (map value (range_with_len (v + 1) n)))) (value m)).0) h
+          ∙ rest ∙ ap (first_from test n) next ∙ sym (ap (λ b. cond b v (first_from test n (suc v))) h)
+    ]

@@ -1,5 +1,6 @@
 // Whether a new alias would make a loop.
 ghost use Rattle.std.specs.Prelude.{◌≡◌, ◌≤◌, true, length};
+ghost use Rattle.ir.specs.Refusals.{answer_unless};
 ghost use Rattle.flow.specs.Meaning.{live};
 ghost use Rattle.flow.specs.Walk.{walk};
 ghost use Rattle.rows.specs.Meaning.{flow as flow_of};
@@ -10,70 +11,74 @@ ghost use Rattle.plain.specs.Loops.{reaches_through, lowest_in_loop, loop_refusa
 
 use crate::dfg::DataFlowGraph;
 use crate::finders::{AliasFinder, LoopMarker, lowest_marked};
+use flow::FlowGraph;
 use ir::{Cause, Refusal, Value};
-use walk::{WalkError, post_order_dfs};
+use walk::post_order_dfs;
 
-impl DataFlowGraph {
-    /// Whether a live value reaches a value whose aliases lead through `dest`.
-    fn reaches_through(&self, root: Value, dest: Value, marks: &mut [u8]) -> bool
-        requires alive { live (flow_of (plain self.now)) root.0 ≡ true }
-        requires room { 1024 ≤ length marks.old }
-        ensures found { result ≡ reaches_through (plain self.now) dest.0 root.0 }
+/// A new alias to be judged: `dest`, as another name for a live `original`.
+#[derive(Clone, Copy)]
+pub(crate) struct NewAlias<'a> {
+    pub graph: &'a DataFlowGraph,
+    pub dest: Value,
+    pub original: Value,
+    ghost alive: { live (flow_of (plain graph.now)) original.0 ≡ true },
+}
+
+impl NewAlias<'_> {
+    /// Whether the original reaches a value whose aliases lead through `dest`.
+    fn makes_loop(&self, marks: &mut [u8]) -> bool
+        requires { 1024 ≤ length marks.old }
+        ensures found { result ≡ reaches_through (plain self.now.graph.now) self.now.dest.0 self.now.original.0 }
         ensures marks { marks.new ≡ swept marks.old }
     {
-        let mut finder = AliasFinder { graph: self, dest };
-        match post_order_dfs(self, root, marks, &mut finder) {
-            Ok(_) => false,
-            Err(error) => match error {
-                WalkError::Stopped(_) => true,
-                WalkError::Refused(_) => unreachable(),
-            },
-        }
+        let mut finder = AliasFinder {
+            graph: self.graph,
+            dest: self.dest,
+        };
+        post_order_dfs(self.graph, self.original, marks, &mut finder).is_err()
     }
 
-    /// By value number, whether a live `root` reaches the value and the value reaches one whose aliases lead through `dest`.
-    fn mark_reaching(&self, root: Value, dest: Value, marks: &mut [u8]) -> [bool; 1024]
-        requires alive { live (flow_of (plain self.now)) root.0 ≡ true }
-        requires room { 1024 ≤ length marks.old }
-        ensures marked { MarksOf (plain self.now) dest.0 (walk (flow_of (plain self.now)) root.0) result }
+    /// By value number, whether the original reaches the value and the value reaches one whose aliases lead through `dest`.
+    fn mark_reaching(&self, marks: &mut [u8]) -> [bool; 1024]
+        requires { 1024 ≤ length marks.old }
+        ensures marked { MarksOf (plain self.now.graph.now) self.now.dest.0 (walk (flow_of (plain self.now.graph.now)) self.now.original.0) result }
         ensures marks { marks.new ≡ swept marks.old }
     {
         let mut marker = LoopMarker {
-            graph: self,
-            dest,
+            graph: self.graph,
+            dest: self.dest,
             marked: [false; 1024],
         };
-        match post_order_dfs(self, root, marks, &mut marker) {
+        match post_order_dfs(self.graph, self.original, marks, &mut marker) {
             Ok(_) => marker.marked,
-            Err(_) => unreachable(),
+            Err(_) => unreachable!(),
         }
     }
 
-    /// The lowest value that would be in a loop, were `dest` another name for `root`, or the count of values.
-    fn lowest_in_loop(&self, dest: Value, root: Value, marks: &mut [u8]) -> u32
-        requires alive { live (flow_of (plain self.now)) root.0 ≡ true }
-        requires room { 1024 ≤ length marks.old }
-        ensures lowest { result ≡ lowest_in_loop (plain self.now) dest.0 root.0 }
+    /// The lowest value that would be in a loop, or the one behind the last.
+    fn lowest_in_loop(&self, marks: &mut [u8]) -> Value
+        requires { 1024 ≤ length marks.old }
+        ensures lowest { result.0 ≡ lowest_in_loop (plain self.now.graph.now) self.now.dest.0 self.now.original.0 }
         ensures marks { marks.new ≡ swept marks.old }
     {
-        let marked = self.mark_reaching(root, dest, marks);
-        lowest_marked(&marked, root, self.tables.values.len() as u32)
+        let marked = self.mark_reaching(marks);
+        let count = self.graph.num_values();
+        lowest_marked(&marked, self.original, count).unwrap_or(Value(count))
     }
 
-    /// Why `dest` cannot become another name for `root`: some value would be in a loop.
-    pub(crate) fn loop_refusal(&self, dest: Value, root: Value, marks: &mut [u8]) -> Option<Refusal>
-        requires alive { live (flow_of (plain self.now)) root.0 ≡ true }
-        requires room { 1024 ≤ length marks.old }
-        ensures refusal { result ≡ loop_refusal (plain self.now) dest.0 root.0 }
+    /// Refuses the alias if some value would be in a loop.
+    pub(crate) fn check_loops(&self, marks: &mut [u8]) -> Result<(), Refusal>
+        requires { 1024 ≤ length marks.old }
+        ensures answer { result ≡ answer_unless (loop_refusal (plain self.now.graph.now) self.now.dest.0 self.now.original.0) tt }
         ensures marks { marks.new ≡ swept marks.old }
     {
-        if !self.reaches_through(root, dest, marks) {
-            return None;
+        if !self.makes_loop(marks) {
+            return Ok(());
         }
-        let place = self.lowest_in_loop(dest, root, marks);
-        Some(Refusal {
+        let lowest = self.lowest_in_loop(marks);
+        Err(Refusal {
             cause: Cause::Loop,
-            place,
+            place: lowest.0,
         })
     }
 }

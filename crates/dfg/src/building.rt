@@ -7,7 +7,7 @@ ghost use Rattle.dfg.specs.Plain.{plain};
 ghost use Rattle.plain.specs.Feed.{fed, fed_with, answered, next_block, next_value, next_inst};
 ghost use Rattle.plain.specs.Marks.{marks_after};
 
-use crate::checks::refuse;
+use crate::alias_loops::NewAlias;
 use crate::dfg::DataFlowGraph;
 use crate::tables::Tables;
 use calls::NewInst;
@@ -29,11 +29,9 @@ impl DataFlowGraph {
         ensures value { result ≡ answered 1024 (plain self.old) MakeBlock (next_block (plain self.old)) }
     {
         if self.tables.blocks >= 64 {
-            return Err(refuse(Cause::TableFull));
+            return Err(Cause::TableFull.into());
         }
-        let block = Block(self.tables.blocks);
-        self.tables.push_block();
-        Ok(block)
+        Ok(self.tables.push_block())
     }
 
     /// Adds a parameter of a type of so many bits to a block.
@@ -41,18 +39,14 @@ impl DataFlowGraph {
         ensures after { plain self.new ≡ fed (plain self.old) (AppendBlockParam block ty) }
         ensures value { result ≡ answered 1024 (plain self.old) (AppendBlockParam block ty) (next_value (plain self.old)) }
     {
-        if !Type::from_bits(ty).is_some() {
-            return Err(refuse(Cause::Unknown));
-        }
+        let ty = Type::try_from(ty)?;
         if self.tables.blocks <= block.0 {
-            return Err(refuse(Cause::NotLive));
+            return Err(Cause::NotLive.into());
         }
         if self.tables.values.len() >= 1024 {
-            return Err(refuse(Cause::TableFull));
+            return Err(Cause::TableFull.into());
         }
-        let v = Value(self.tables.values.len() as u32);
-        self.tables.push_param(block, ty);
-        Ok(v)
+        Ok(self.tables.push_param(block, ty))
     }
 
     /// Adds an instruction with its results.
@@ -60,12 +54,8 @@ impl DataFlowGraph {
         ensures after { plain self.new ≡ fed (plain self.old) (AppendInst (inst_of new.now)) }
         ensures value { result ≡ answered 1024 (plain self.old) (AppendInst (inst_of new.now)) (next_inst (plain self.old)) }
     {
-        if let Some(refusal) = self.tables.inst_refusal(new) {
-            return Err(refusal);
-        }
-        let inst = Inst(self.tables.insts.len() as u32);
-        self.tables.push_inst(new);
-        Ok(inst)
+        let row = self.tables.new_row(new)?;
+        Ok(self.tables.push_inst(row, &new.types))
     }
 
     /// Empties an instruction's list of results, which keep their definitions.
@@ -74,7 +64,7 @@ impl DataFlowGraph {
         ensures value { result ≡ answered 1024 (plain self.old) (ClearResults inst) tt }
     {
         if self.tables.insts.len() <= inst.0 as usize {
-            return Err(refuse(Cause::NotLive));
+            return Err(Cause::NotLive.into());
         }
         self.tables.clear(inst);
         Ok(())
@@ -94,14 +84,14 @@ impl DataFlowGraph {
         ensures marks { marks.new ≡ marks_after (plain self.old) (ChangeToAlias dest src) marks.old }
         ensures loops { JudgedByLoops (plain self.old) (length marks.old) dest src result }
     {
-        if let Some(refusal) = self.tables.alias_refusal(dest, src, marks.len()) {
-            return Err(refusal);
-        }
-        let original = self.tables.resolve_aliases(src);
-        if let Some(refusal) = self.loop_refusal(dest, original, marks) {
-            return Err(refusal);
-        }
-        self.tables.set_alias(dest, src);
+        let original = self.tables.new_original(dest, src, marks.len())?;
+        let alias = NewAlias {
+            graph: self,
+            dest,
+            original,
+        };
+        alias.check_loops(marks)?;
+        self.tables.set_alias(dest, original);
         Ok(())
     }
 

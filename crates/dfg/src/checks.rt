@@ -1,120 +1,28 @@
 // Why a building call is refused.
-ghost use Rattle.std.specs.Prelude.{◌≡◌, ◌+◌, ◌||◌, length, nat_le, nat_lt};
-ghost use Rattle.rows.specs.Rows.{value_at, inst_at, type_in, width_at, live, all_live, widths_of, original, lists};
+ghost use Rattle.std.specs.Prelude.{◌≡◌, ◌+◌, ◌&&◌, ◌||◌, length, nat_le, nat_lt};
+ghost use Rattle.ir.specs.Constraints.{constraints_of, arg_count_fits, result_count_fits};
+ghost use Rattle.ir.specs.Entities.{value};
+ghost use Rattle.ir.specs.Refusals.{first, answer_unless};
+ghost use Rattle.rows.specs.Rows.{original};
 ghost use Rattle.calls.specs.Calls.{AppendInst, ChangeToAlias, inst_of};
-ghost use Rattle.plain.specs.Attached.{attached};
+ghost use Rattle.plain.specs.Feed.{checks, row_checks, inst_row};
 ghost use Rattle.dfg.specs.Held.{held};
-ghost use Rattle.ir.specs.Refusals.{first, because};
-ghost use Rattle.plain.specs.Feed.{checks};
 
-use crate::decode::{args_of, first_type, names_known, opcode_of};
+use crate::decode::{first_type, results_from, types_known};
 use crate::tables::Tables;
 use calls::NewInst;
-use ir::{Cause, Inst, Operands, Refusal, Type, Value};
-use rows::ValueData;
+use ir::{Cause, IntCC, Opcode, Operands, Refusal, Value};
+use rows::{InstructionData, ReadRows};
 
-/// A refusal that speaks of no place.
-pub(crate) fn refuse(cause: Cause) -> Refusal
-    ensures { result ≡ because cause }
+/// Whether an instruction of the opcode may have so many operands and results.
+fn counts_fit(opcode: Opcode, new: &NewInst) -> bool
+    ensures { result ≡ (arg_count_fits (constraints_of opcode) (length new.now.args.items) && result_count_fits (constraints_of opcode) (length new.now.types.items)) }
 {
-    Refusal { cause, place: 0 }
+    let constraints = opcode.constraints();
+    constraints.arg_count_fits(new.args.len()) && constraints.result_count_fits(new.types.len())
 }
 
 impl Tables {
-    /// The row of a value, a deleted one where there is none.
-    pub(crate) fn value_data(&self, v: Value) -> ValueData
-        ensures { result ≡ value_at (held self.now) v.0 }
-    {
-        let i = v.0 as usize;
-        if i >= self.values.len() {
-            return ValueData::Deleted;
-        }
-        self.values[i]
-    }
-
-    /// The type of a value, invalid where it is deleted or missing.
-    pub(crate) fn value_type(&self, v: Value) -> Type
-        ensures { result ≡ type_in (value_at (held self.now) v.0) }
-    {
-        self.value_data(v).value_type()
-    }
-
-    /// The width of a value, 0 where it is deleted or missing.
-    fn value_width(&self, v: Value) -> u8
-        ensures { result ≡ width_at (held self.now) v.0 }
-    {
-        self.value_type(v).bits()
-    }
-
-    fn is_live(&self, v: Value) -> bool
-        ensures { result ≡ live (held self.now) v.0 }
-    {
-        0 < self.value_width(v)
-    }
-
-    /// Whether all the operands are live.
-    fn are_live(&self, args: Operands) -> bool
-        ensures { result ≡ all_live (held self.now) args }
-    {
-        match args {
-            Operands::Nullary => true,
-            Operands::Unary(a) => self.is_live(a),
-            Operands::Binary(a, b) => self.is_live(a) && self.is_live(b),
-            Operands::Ternary(a, b, c) => self.is_live(a) && self.is_live(b) && self.is_live(c),
-        }
-    }
-
-    /// The widths of the operands, 0 where there is none.
-    fn arg_widths(&self, args: Operands) -> (u8, u8, u8)
-        ensures { result ≡ widths_of (held self.now) args }
-    {
-        match args {
-            Operands::Nullary => (0, 0, 0),
-            Operands::Unary(a) => (self.value_width(a), 0, 0),
-            Operands::Binary(a, b) => (self.value_width(a), self.value_width(b), 0),
-            Operands::Ternary(a, b, c) => (
-                self.value_width(a),
-                self.value_width(b),
-                self.value_width(c),
-            ),
-        }
-    }
-
-    /// The end of a value's aliases.
-    pub(crate) fn resolve_aliases(&self, value: Value) -> Value
-        ensures { result.0 ≡ original (held self.now) value.0 }
-    {
-        let mut v = value;
-        while let ValueData::Alias { original, .. } = self.value_data(v) {
-            v = original;
-        }
-        v
-    }
-
-    /// Whether a value is a parameter or a result that its instruction lists.
-    fn is_attached(&self, v: Value) -> bool
-        ensures { result ≡ attached (held self.now) v.0 }
-    {
-        match self.value_data(v) {
-            ValueData::Inst { inst, .. } => self.lists_result(inst, v),
-            ValueData::Param { .. } => true,
-            ValueData::Alias { .. } => false,
-            ValueData::Union { .. } => false,
-            ValueData::Deleted => false,
-        }
-    }
-
-    /// Whether the instruction lists the value among its results.
-    fn lists_result(&self, inst: Inst, v: Value) -> bool
-        ensures { result ≡ lists (inst_at (held self.now) inst.0).results v.0 }
-    {
-        let i = inst.0 as usize;
-        if i >= self.insts.len() {
-            return false;
-        }
-        self.insts[i].results.lists(v)
-    }
-
     /// Whether there is no room for another instruction with so many results.
     fn is_full(&self, results: usize) -> bool
         ensures { result ≡ (nat_le 1024 (length (held self.now).insts) || nat_lt 1024 (length (held self.now).values + results)) }
@@ -122,59 +30,80 @@ impl Tables {
         self.insts.len() >= 1024 || results > 1024 - self.values.len()
     }
 
-    /// Why the instruction cannot be appended.
-    pub(crate) fn inst_refusal(&self, new: &NewInst) -> Option<Refusal>
-        ensures { result ≡ first (checks (held self.now) 1024 (AppendInst (inst_of new.now))) }
+    /// Refuses the row of a new instruction that does not go with the tables; its results have these types.
+    fn check_row(&self, row: InstructionData, types: &[u16]) -> Result<(), Refusal>
+        ensures { result ≡ answer_unless (first (row_checks (held self.now) row types.now)) tt }
     {
-        if !names_known(new) {
-            return Some(refuse(Cause::Unknown));
+        if self.blocks <= row.block.0 || !self.are_live(row.args) {
+            return Err(Cause::NotLive.into());
         }
-        let constraints = opcode_of(new).constraints();
-        if !(constraints.arg_count_fits(new.args.len())
-            && constraints.result_count_fits(new.types.len()))
-        {
-            return Some(refuse(Cause::WrongCount));
+        let constraints = row.opcode.constraints();
+        let ty = first_type(types);
+        if !constraints.widths_fit(ty.bits(), self.arg_widths(row.args)) {
+            return Err(Cause::Widths.into());
         }
-        let args = args_of(new);
-        if self.blocks <= new.block.0 || !self.are_live(args) {
-            return Some(refuse(Cause::NotLive));
+        if !constraints.immediate_fits(ty, row.imm) {
+            return Err(Cause::Immediate.into());
         }
-        let (a, b, c) = self.arg_widths(args);
-        let ty = first_type(&new.types);
-        if !constraints.widths_fit(ty.bits(), a, b, c) {
-            return Some(refuse(Cause::Widths));
+        if self.is_full(types.len()) {
+            return Err(Cause::TableFull.into());
         }
-        if !constraints.immediate_fits(ty, new.imm) {
-            return Some(refuse(Cause::Immediate));
-        }
-        if self.is_full(new.types.len()) {
-            return Some(refuse(Cause::TableFull));
-        }
-        None
+        Ok(())
     }
 
-    /// Why the value cannot be changed to an alias, whether or not that would make a loop.
-    pub(crate) fn alias_refusal(&self, dest: Value, src: Value, marks: usize) -> Option<Refusal>
-        ensures { result ≡ first (checks (held self.now) marks (ChangeToAlias dest src)) }
+    /// The row of a new instruction, unless it is refused.
+    pub(crate) fn new_row(&self, new: &NewInst) -> Result<InstructionData, Refusal>
+        ensures { result ≡ answer_unless (first (checks (held self.now) 1024 (AppendInst (inst_of new.now)))) (inst_row (held self.now) (inst_of new.now)) }
+    {
+        let opcode = Opcode::try_from(new.opcode)?;
+        let cond = IntCC::try_from(new.cond)?;
+        if !types_known(&new.types) {
+            return Err(Cause::Unknown.into());
+        }
+        if !counts_fit(opcode, new) {
+            return Err(Cause::WrongCount.into());
+        }
+        let row = InstructionData {
+            opcode,
+            cond,
+            imm: new.imm,
+            args: Operands::try_from(new.args.as_slice())?,
+            results: results_from(&new.types, self.values.len() as u32),
+            block: new.block,
+        };
+        self.check_row(row, &new.types)?;
+        Ok(row)
+    }
+
+    /// The end of the source's aliases, unless the value cannot become another name for it, whether or not that would make a
+    /// loop.
+    pub(crate) fn new_original(
+        &self,
+        dest: Value,
+        src: Value,
+        marks: usize,
+    ) -> Result<Value, Refusal>
+        ensures { result ≡ answer_unless (first (checks (held self.now) marks (ChangeToAlias dest src))) (value (original (held self.now) src.0)) }
     {
         if !(self.is_live(dest) && self.is_live(src)) {
-            return Some(refuse(Cause::NotLive));
+            return Err(Cause::NotLive.into());
         }
         if self.value_width(dest) != self.value_width(src) {
-            return Some(refuse(Cause::Widths));
+            return Err(Cause::Widths.into());
         }
         if self.is_attached(dest) {
-            return Some(refuse(Cause::Attached));
+            return Err(Cause::Attached.into());
         }
-        if self.resolve_aliases(src).0 == dest.0 {
-            return Some(refuse(Cause::ResolvesToDestination));
+        let original = self.resolve_aliases(src);
+        if original == dest {
+            return Err(Cause::ResolvesToDestination.into());
         }
         if marks < 1024 {
-            return Some(Refusal {
+            return Err(Refusal {
                 cause: Cause::TooShort,
                 place: 1024,
             });
         }
-        None
+        Ok(original)
     }
 }

@@ -1,20 +1,19 @@
 // The changes that building calls make to the tables.
-ghost use Rattle.std.specs.Prelude.{◌≡◌, ◌≢◌, ◌+◌, ◌<◌, ◌≤◌, ◌∷◌, [], ◌++◌, map, length, count_by, IfOk, vec_len, vec_capacity, slice_index_or, slice_set};
+ghost use Rattle.std.specs.Prelude.{◌≡◌, ◌≢◌, false, ◌+◌, ◌<◌, ◌≤◌, ◌∷◌, [], ◌++◌, map, length, count_by, IfOk, vec_len, vec_capacity, slice_index_or, slice_set};
 ghost use Rattle.std.specs.Borrow.{sem, follows};
 ghost use Rattle.std.specs.Vec.{with_item};
-ghost use Rattle.rows.specs.Rows.{original, erased, empty, inst_at};
+ghost use Rattle.rows.specs.Rows.{original, erased, empty, inst_at, value_at, is_alias, type_in};
 ghost use Rattle.rows.specs.contracts.instruction.InstructionData.{the_row as the_inst_row};
-ghost use Rattle.calls.specs.Calls.{MakeBlock, AppendBlockParam, AppendInst, ClearResults, ChangeToAlias, ResolveAllAliases, inst_of};
+ghost use Rattle.calls.specs.Calls.{MakeBlock, ClearResults, ResolveAllAliases};
 ghost use Rattle.plain.specs.Attached.{param_count, map_args, rewritten, is_param_of};
 ghost use Rattle.dfg.specs.Held.{held};
-ghost use Rattle.plain.specs.Feed.{grown, result_rows};
+ghost use Rattle.plain.specs.Feed.{grown, result_rows, next_block, next_value, next_inst};
+ghost use Rattle.rows.specs.declared.value.ValueData.TheVariants.{Param, Alias};
 ghost use Rattle.dfg.specs.contracts.tables.Tables.{the_row};
 
-use crate::decode::{args_of, cond_of, opcode_of, results_from, type_or_invalid};
 use crate::tables::Tables;
-use calls::NewInst;
-use ir::{Block, Inst, Operands, Value};
-use rows::{InstructionData, Results, ValueData};
+use ir::{Block, Inst, Operands, Type, Value};
+use rows::{InstructionData, ReadRows, Results, ValueData};
 use std::alloc::{AllocError, Global};
 
 /// Whether the row is that of a parameter of the block.
@@ -44,7 +43,7 @@ fn push_results(values: &mut Vec<ValueData>, types: &[u16], inst: Inst)
     ensures capacity { vec_capacity values.new ≡ vec_capacity values.old }
 {
     for (num, ty) in types.iter().enumerate() {
-        let ty = type_or_invalid(*ty);
+        let ty = Type::from_bits_or_invalid(*ty);
         let num = num as u16;
         values.push_reserved(ValueData::Inst { ty, num, inst });
     }
@@ -74,42 +73,41 @@ impl Tables {
     }
 
     /// Adds a block.
-    pub(crate) fn push_block(&mut self)
+    pub(crate) fn push_block(&mut self) -> Block
         requires { self.old.blocks < 64 }
-        ensures { held self.new ≡ grown (held self.old) MakeBlock }
+        ensures after { held self.new ≡ grown (held self.old) MakeBlock }
+        ensures block { result ≡ next_block (held self.old) }
     {
+        let block = Block(self.blocks);
         self.blocks += 1;
+        block
     }
 
     /// Adds a parameter of the block.
-    pub(crate) fn push_param(&mut self, block: Block, ty: u16)
+    pub(crate) fn push_param(&mut self, block: Block, ty: Type) -> Value
         requires { length self.old.values.items < 1024 }
-        ensures { held self.new ≡ grown (held self.old) (AppendBlockParam block ty) }
+        ensures after { held self.new ≡ record (held self.old) { values = self.old.values.items ++ Param ty (param_count self.old.values.items block.0) block ∷ [] } }
+        ensures value { result ≡ next_value (held self.old) }
     {
+        let v = Value(self.values.len() as u32);
         let num = num_block_params(&self.values, block);
-        let ty = type_or_invalid(ty);
         self.values
             .push_reserved(ValueData::Param { ty, num, block });
+        v
     }
 
-    /// Adds an instruction with its results.
-    pub(crate) fn push_inst(&mut self, new: &NewInst)
+    /// Adds an instruction with its results, whose types are these.
+    pub(crate) fn push_inst(&mut self, row: InstructionData, types: &[u16]) -> Inst
         requires insts { length self.old.insts.items < 1024 }
-        requires few { length new.now.types.items ≤ 2 }
-        requires values { length self.old.values.items + length new.now.types.items ≤ 1024 }
-        ensures { held self.new ≡ grown (held self.old) (AppendInst (inst_of new.now)) }
+        requires few { length types.now ≤ 2 }
+        requires values { length self.old.values.items + length types.now ≤ 1024 }
+        ensures after { held self.new ≡ record (held self.old) { values = self.old.values.items ++ result_rows types.now (length self.old.insts.items); insts = self.old.insts.items ++ row ∷ [] } }
+        ensures inst { result ≡ next_inst (held self.old) }
     {
-        let i = self.insts.len() as u32;
-        let results = results_from(&new.types, self.values.len() as u32);
-        push_results(&mut self.values, &new.types, Inst(i));
-        self.insts.push_reserved(InstructionData {
-            opcode: opcode_of(new),
-            cond: cond_of(new),
-            imm: new.imm,
-            args: args_of(new),
-            results,
-            block: new.block,
-        });
+        let inst = Inst(self.insts.len() as u32);
+        push_results(&mut self.values, types, inst);
+        self.insts.push_reserved(row);
+        inst
     }
 
     /// The row of an instruction, to change in place.
@@ -129,14 +127,14 @@ impl Tables {
         self.inst_mut(inst.0 as usize).results = Results::Empty;
     }
 
-    /// Makes a value another name for the end of the source's aliases, which is another value.
-    pub(crate) fn set_alias(&mut self, dest: Value, src: Value)
+    /// Makes a value another name for an original, which is another value.
+    pub(crate) fn set_alias(&mut self, dest: Value, original: Value)
         requires within { dest.0 < length self.old.values.items }
-        requires other { original (held self.old) src.0 ≢ dest.0 }
-        ensures { held self.new ≡ grown (held self.old) (ChangeToAlias dest src) }
+        requires ends { is_alias (value_at (held self.old) original.0) ≡ false }
+        requires other { original.0 ≢ dest.0 }
+        ensures { held self.new ≡ record (held self.old) { values = slice_set self.old.values.items dest.0 (Alias (type_in (value_at (held self.old) dest.0)) original) } }
     {
         let ty = self.value_type(dest);
-        let original = self.resolve_aliases(src);
         self.values[dest.0 as usize] = ValueData::Alias { ty, original };
     }
 

@@ -1,35 +1,18 @@
 // The visitors that look for what a new alias would make a loop of.
-ghost use Rattle.std.specs.Prelude.{◌≡◌, ◌<◌, true, false, ◌||◌, slice_index_or, slice_set};
-ghost use Rattle.ir.specs.Entities.{values};
+ghost use Rattle.std.specs.Prelude.{◌≡◌, true, false, ◌||◌, find, map, slice_index_or, slice_set};
+ghost use Rattle.std.specs.List.{range_with_len};
+ghost use Rattle.ir.specs.Entities.{value, values};
 ghost use Rattle.flow.specs.Meaning.{uses};
 ghost use Rattle.rows.specs.Meaning.{flow as flow_of};
 ghost use Rattle.dfg.specs.Plain.{plain};
-ghost use Rattle.plain.specs.Loops.{through, any_through, any_of, first_from};
+ghost use Rattle.plain.specs.Loops.{through, any_through, any_of};
 ghost use Rattle.dfg.specs.Finders.{NoneThrough, none_yet, Marked, unmarked, marked_but};
 
 use crate::dfg::DataFlowGraph;
-use crate::tables::Tables;
 use flow::value_args;
 use ir::{Operands, Value};
-use rows::ValueData;
 use std::convert::Infallible;
 use walk::Visitor;
-
-impl Tables {
-    /// Whether a value's aliases lead through `dest`.
-    pub(crate) fn leads_through(&self, value: Value, dest: Value) -> bool
-        ensures { result ≡ through self.now.values.items dest.0 value.0 }
-    {
-        let mut v = value;
-        while let ValueData::Alias { original, .. } = self.value_data(v) {
-            if v.0 == dest.0 {
-                return true;
-            }
-            v = original;
-        }
-        v.0 == dest.0
-    }
-}
 
 /// A value was found whose aliases lead through the destination.
 #[derive(Clone, Copy)]
@@ -63,47 +46,34 @@ impl Visitor for AliasFinder<'_> {
 fn is_marked(marked: &[bool], v: Value) -> bool
     ensures { result ≡ slice_index_or marked.now v.0 false }
 {
-    let i = v.0 as usize;
-    if i >= marked.len() {
-        return false;
-    }
-    marked[i]
+    marked.get(v.0 as usize).copied().unwrap_or(false)
 }
 
 /// Marks a value or not, if there is a place for it.
 fn mark(marked: &mut [bool], v: Value, reaches: bool)
     ensures { marked.new ≡ slice_set marked.old v.0 reaches }
 {
+    // by its index: of what `get_mut` lends, no clause of a slice says where it is written
     let i = v.0 as usize;
     if i < marked.len() {
         marked[i] = reaches;
     }
 }
 
-/// The lowest of the first `count` values that is marked and is not `root`, or `count`.
-pub(crate) fn lowest_marked(marked: &[bool], root: Value, count: u32) -> u32
-    ensures { result ≡ first_from (marked_but marked.now root.0) count 0 }
+/// The lowest of the first `count` values that is marked and is not `root`.
+pub(crate) fn lowest_marked(marked: &[bool], root: Value, count: u32) -> Option<Value>
+    ensures { result ≡ find (λ v. marked_but marked.now root.0 v.0) (map value (range_with_len 0 count)) }
 {
-    for v in 0..count {
-        if v != root.0 && is_marked(marked, Value(v)) {
-            return v;
-        }
-    }
-    count
+    (0..count)
+        .map(Value)
+        .find(|v| *v != root && is_marked(marked, *v))
 }
 
 /// Whether one of the operands is marked.
 fn any_marked(marked: &[bool], args: Operands) -> bool
     ensures { result ≡ any_of (λ u. slice_index_or marked.now u false) (values args) }
 {
-    match args {
-        Operands::Nullary => false,
-        Operands::Unary(a) => is_marked(marked, a),
-        Operands::Binary(a, b) => is_marked(marked, a) || is_marked(marked, b),
-        Operands::Ternary(a, b, c) => {
-            is_marked(marked, a) || is_marked(marked, b) || is_marked(marked, c)
-        }
-    }
+    args.iter().any(|a| is_marked(marked, a))
 }
 
 /// Marks each value that it is shown and that reaches a value whose aliases lead through `dest`.

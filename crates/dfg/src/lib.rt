@@ -13,6 +13,7 @@ pub mod dfg;
 mod edits;
 pub mod finders;
 pub mod queries;
+mod reads;
 mod tables;
 
 pub use dfg::DataFlowGraph;

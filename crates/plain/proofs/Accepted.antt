@@ -14,7 +14,7 @@ use Rattle.ir.specs.declared.refusal.Refusal.{Refusal}
 use Rattle.rows.specs.Rows.{Rows, all_live, live, width_at, original}
 use Rattle.plain.specs.Attached.{attached}
 use Rattle.ir.specs.Refusals.{first}
-use Rattle.plain.specs.Feed.{checks, constraints_in, args_of, types_known, first_type, new_widths_fit}
+use Rattle.plain.specs.Feed.{checks, constraints_in, args_of, types_known, first_type, inst_row, row_widths_fit}
 use Rattle.calls.specs.Calls.{AppendBlockParam, AppendInst, ChangeToAlias}
 use Rattle.calls.specs.Calls.{InstCall}
 
@@ -48,7 +48,7 @@ pub record New (p : Rows) (n : InstCall) : Type 0 where
   pub few_results : length n.types ≤ 2
   pub in_block : n.block.0 < p.blocks
   pub operands : all_live p (args_of n) ≡ true
-  pub widths : new_widths_fit p n ≡ true
+  pub widths : row_widths_fit p (inst_row p n) n.types ≡ true
   pub imm : immediate_fits (constraints_in n) (type_bits (first_type n.types)) n.imm ≡ true
   pub inst_room : length p.insts < 1024
   pub value_room : length p.values + length n.types ≤ 1024

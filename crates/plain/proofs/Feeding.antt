@@ -5,7 +5,7 @@ use Rattle.rows.specs.Rows.{Rows}
 use Rattle.calls.specs.Calls.{Call}
 use Rattle.calls.specs.declared.answer.Answer.{Answer}
 use Rattle.ir.specs.Refusals.{answer_unless}
-use Rattle.plain.specs.Feed.{refusal, fed, fed_all, answered, answer_to, answers_to}
+use Rattle.plain.specs.Feed.{refusal, grown, fed, fed_with, fed_unless, fed_all, answered, answer_to, answers_to}
 
 pub fed_more : (p : Rows) (cs : List Call) (c : Call) → fed_all p (cs ++ c ∷ []) ≡ fed (fed_all p cs) c
 fed_more p [] c = refl
@@ -17,19 +17,29 @@ answers_more p (x ∷ cs) c = ap (λ l. answered 1024 p x (answer_to p x) ∷ l)
 
 -- ---- one answer for another
 
-other_refused : {A B : Type 0} (o : Option Refusal) (x : A) (y : B) (why : Refusal) → Err why ≡ answer_unless o x → Err why ≡ answer_unless o y
-other_refused None x y why e = let z : ◌≡◌ {A = ℕ} 0 1 = cc in absurd (omega arith)
-other_refused (Some w) x y why e = let same : why ≡ w = cc in ap Err same
+-- what is answered passed, and what is not was refused
+pub passed : {A : Type 0} (o : Option Refusal) (x y : A) → Ok x ≡ answer_unless o y → (o ≡ None) × (x ≡ y)
+passed None x y e = let same : x ≡ y = cc in (refl, same)
+passed (Some w) x y e = let z : ◌≡◌ {A = ℕ} 0 1 = cc in absurd (omega arith)
 
-other_given : {A B : Type 0} (o : Option Refusal) (f : A → B) (x y : A) → Ok x ≡ answer_unless o y → Ok (f x) ≡ answer_unless o (f y)
-other_given None f x y e = let same : x ≡ y = cc in ap (λ z. Ok (f z)) same
-other_given (Some w) f x y e = let z : ◌≡◌ {A = ℕ} 0 1 = cc in absurd (omega arith)
+pub refused : {A : Type 0} (o : Option Refusal) (y : A) (why : Refusal) → Err why ≡ answer_unless o y → o ≡ Some why
+refused None y why e = let z : ◌≡◌ {A = ℕ} 0 1 = cc in absurd (omega arith)
+refused (Some w) y why e = let same : why ≡ w = cc in ap Some (sym same)
+
+-- what a call leaves and answers where it is refused, and where it is not
+module _ {A : Type 0} (marks : ℕ) (p : Rows) (c : Call) (x : A) where
+  pub call_refused : (why : Refusal) → refusal p marks c ≡ Some why → (p ≡ fed_with marks p c) × (Err why ≡ answered marks p c x)
+  call_refused why r = (sym (ap (λ o. fed_unless o p (grown p c)) r), sym (ap (λ o. answer_unless o x) r))
+
+  pub call_done : refusal p marks c ≡ None → (grown p c ≡ fed_with marks p c) × (Ok x ≡ answered marks p c x)
+  call_done r = (sym (ap (λ o. fed_unless o p (grown p c)) r), sym (ap (λ o. answer_unless o x) r))
 
 -- a call that is refused is refused for the same reason, whatever it would answer
 pub refused_as : {A : Type 0} (marks : ℕ) (p : Rows) (k c : Call) (x : A) (why : Refusal) → c ≡ k → Err why ≡ answered marks p k x → Err why ≡ answered marks p c (answer_to p c)
-refused_as marks p k c x why is e = other_refused (refusal p marks k) x (answer_to p k) why e ∙ sym (ap (λ c. answered marks p c (answer_to p c)) is)
+refused_as marks p k c x why is e = sym (ap (λ o. answer_unless o (answer_to p k)) (refused (refusal p marks k) x why e)) ∙ sym (ap (λ c. answered marks p c (answer_to p c)) is)
 
 -- and one that is not answers by what it made
 pub given_as : {A : Type 0} (marks : ℕ) (p : Rows) (k c : Call) (f : A → Answer) (x y : A) → c ≡ k → f y ≡ answer_to p k → Ok x ≡ answered marks p k y → Ok (f x) ≡ answered marks p c (answer_to p c)
 given_as marks p k c f x y is tells e =
-    other_given (refusal p marks k) f x y e ∙ ap (answered marks p k) tells ∙ sym (ap (λ c. answered marks p c (answer_to p c)) is)
+    let both = passed (refusal p marks k) x y e in
+    ap (λ z. Ok (f z)) both.1 ∙ sym (ap (λ o. answer_unless o (f y)) both.0) ∙ ap (answered marks p k) tells ∙ sym (ap (λ c. answered marks p c (answer_to p c)) is)

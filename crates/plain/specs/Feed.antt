@@ -1,5 +1,6 @@
 -- What each building call does to the plain graph, which is its rows, and what it answers. Assumes nothing.
-use Rattle.std.specs.Prelude.{ℕ, ◌+◌, Bool, true, cond, not, ◌&&◌, ◌||◌, List, [], ◌∷◌, ◌++◌, map, length, is_some, Some, None, Ok, Err, Option, Result, ◌==◌, nat_le, nat_lt, slice_set}
+use Rattle.std.specs.Prelude.{ℕ, ◌+◌, Bool, not, ◌&&◌, ◌||◌, List, [], ◌∷◌, ◌++◌, map, length, is_some, Some, None, Option, Result, ◌==◌, nat_le, nat_lt, slice_set}
+use Rattle.std.specs.List.{list_all}
 use Rattle.std.specs.Option.{unwrap_or}
 use Rattle.ir.specs.Codes.{opcode_at, intcc_at, type_at, type_bits, type_or}
 use Rattle.ir.specs.Constraints.{constraints_of, arg_count_fits, result_count_fits, widths_fit, immediate_fits}
@@ -15,7 +16,6 @@ use Rattle.ir.specs.declared.instructions.Operands.{Operands}
 use Rattle.ir.specs.declared.instructions.Operands.TheVariants.{Nullary}
 use Rattle.ir.specs.declared.opcodes.Opcode.{Opcode}
 use Rattle.ir.specs.declared.opcodes.Opcode.TheVariants.{Opaque}
-use Rattle.ir.specs.declared.refusal.Cause.{Cause}
 use Rattle.ir.specs.declared.refusal.Cause.TheVariants.{NotLive, Unknown, WrongCount, Widths, Immediate, TableFull, Attached, ResolvesToDestination}
 use Rattle.ir.specs.declared.refusal.Refusal.{Refusal}
 use Rattle.ir.specs.declared.types.Type as T
@@ -49,8 +49,7 @@ abbrev pub args_of : InstCall → Operands
 args_of n = unwrap_or (operands_of n.args) Nullary
 
 abbrev pub types_known : List ℕ → Bool
-types_known [] = true
-types_known (ty ∷ types) = is_some (type_at ty) && types_known types
+types_known types = list_all (λ ty. is_some (type_at ty)) types
 
 -- the type of the first result, invalid where there is none
 abbrev pub first_type : List ℕ → T.Type
@@ -63,10 +62,6 @@ names_known n = is_some (opcode_at n.opcode) && (is_some (intcc_at n.cond) && ty
 
 abbrev pub counts_fit : InstCall → Bool
 counts_fit n = arg_count_fits (constraints_in n) (length n.args) && result_count_fits (constraints_in n) (length n.types)
-
-abbrev pub new_widths_fit : Rows → InstCall → Bool
-new_widths_fit p n =
-    widths_fit (constraints_in n) (type_bits (first_type n.types)) (widths_of p (args_of n)).0 (widths_of p (args_of n)).1 (widths_of p (args_of n)).2
 
 -- the results of an instruction from value number v on, as it lists them: none, one or two
 abbrev pub results_from : List ℕ → ℕ → Results
@@ -91,6 +86,20 @@ inst_row p n =
       block = n.block;
     }
 
+-- do the widths of its operands go with that of its first result, which has the first of these types
+abbrev pub row_widths_fit : Rows → InstructionData → List ℕ → Bool
+row_widths_fit p row types =
+    widths_fit (constraints_of row.opcode) (type_bits (first_type types)) (widths_of p row.args).0 (widths_of p row.args).1 (widths_of p row.args).2
+
+-- what may stand against the row of an instruction to append, whose results have these types
+abbrev pub row_checks : Rows → InstructionData → List ℕ → List (Bool × Refusal)
+row_checks p row types =
+    (nat_le p.blocks row.block.0 || not (all_live p row.args), because NotLive)
+    ∷ (not (row_widths_fit p row types), because Widths)
+    ∷ (not (immediate_fits (constraints_of row.opcode) (type_bits (first_type types)) row.imm), because Immediate)
+    ∷ (nat_le 1024 (length p.insts) || nat_lt 1024 (length p.values + length types), because TableFull)
+    ∷ []
+
 -- ---- the calls
 
 -- what may stand against a call over so many bytes of marks, in the order of the checks
@@ -104,11 +113,7 @@ checks p marks (AppendBlockParam b ty) =
 checks p marks (AppendInst n) =
     (not (names_known n), because Unknown)
     ∷ (not (counts_fit n), because WrongCount)
-    ∷ (nat_le p.blocks n.block.0 || not (all_live p (args_of n)), because NotLive)
-    ∷ (not (new_widths_fit p n), because Widths)
-    ∷ (not (immediate_fits (constraints_in n) (type_bits (first_type n.types)) n.imm), because Immediate)
-    ∷ (nat_le 1024 (length p.insts) || nat_lt 1024 (length p.values + length n.types), because TableFull)
-    ∷ []
+    ∷ row_checks p (inst_row p n) n.types
 checks p marks (ClearResults i) = (nat_le (length p.insts) i.0, because NotLive) ∷ []
 checks p marks (ChangeToAlias dest src) =
     (not (live p dest.0 && live p src.0), because NotLive)

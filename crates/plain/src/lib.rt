@@ -11,5 +11,4 @@ pub fn plain_graph_stands()
     ensures well_formed { StaysWellFormed }
     ensures lawful { AlwaysLawful }
     ensures aliases { AliasesJudged }
-{
-}
+{}

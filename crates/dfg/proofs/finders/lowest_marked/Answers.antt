@@ -1,34 +1,18 @@
-use Rattle.std.proofs.Common.{◌≡◌, ℕ, false, not, ◌&&◌, get_or, sym, ap, ◌∙◌, arith}
-use Rattle.std.proofs.lemmas.Bool.{eq-eqb, ne_eqb}
+use Rattle.std.proofs.Common.{◌≡◌, Some, None, Option, option_map, refl, ◌∙◌, rules, tests, arith}
+use Rattle.std.proofs.lemmas.Iterator.{YieldsList-from_range, YieldsList-from_map}
+use Rattle.std.proofs.lemmas.Iterator.Search.{find_from_yields_List}
+use Rattle.ir.specs.Entities.{value}
+use Rattle.ir.specs.declared.entities.Value.{Value}
 use Rattle.dfg.specs.Finders.{marked_but}
-use Rattle.plain.proofs.Through.{first_here, first_step, first_end}
 use Rattle.dfg.proofs.finders.lowest_marked.Goals as goal
-use Rattle.dfg.proofs.finders.lowest_marked.Goals.{else-v-root-via-then-v-root+else-is_marked, else-v-root-via-else-v-root}
 
-pub returns-then-is_marked : goal.returns-then-is_marked
-returns-then-is_marked c =
-    let v : ℕ = c.loop-v.v in
-    sym
-    (first_here (marked_but c.args.marked.now c.args.root.0) c.args.count v c.loop-v-test.true
-    (ap (λ b. not b && get_or c.args.marked.now v false) (ne_eqb v c.args.root.0 c.if-v-root.true) ∙ sym c.if-is_marked.ensures))
-    ∙ c.loop-v.invariant
-
-pub loop-v-preserved : goal.loop-v-preserved
-loop-v-preserved c =
-    let v : ℕ = c.loop-v.v in
-    let test = marked_but c.args.marked.now c.args.root.0 in
-    elim c.else-v-root.branch [
-      | else-v-root-via-then-v-root+else-is_marked w ↦
-          first_step test c.args.count v c.loop-v-test.true
-          (ap (λ b. not b && get_or c.args.marked.now v false) (ne_eqb v c.args.root.0 w.if-v-root.true) ∙ sym w.if-is_marked.ensures)
-          ∙ c.loop-v.invariant
-      | else-v-root-via-else-v-root w ↦
-          first_step test c.args.count v c.loop-v-test.true
-          (ap (λ b. not b && get_or c.args.marked.now v false) (eq-eqb v c.args.root.0 w.if-v-root.false))
-          ∙ c.loop-v.invariant
-    ]
+same_option : {A : Type 0} (o : Option A) → o ≡ option_map (λ x. x) o
+same_option None = refl
+same_option (Some x) = refl
 
 pub returns : goal.returns
 returns c =
-    let at : c.args.count ≡ c.loop-v.v = omega arith in
-    at ∙ sym (first_end (marked_but c.args.marked.now c.args.root.0) c.args.count c.loop-v.v c.loop-v-test.false) ∙ c.loop-v.invariant
+    same_option c.find.result
+    ∙ find_from_yields_List (λ (v : Value). marked_but c.args.marked.now c.args.root.0 v.0) _ _ c.find.result c.find.ensures.ran
+    (YieldsList-from_map _ value (YieldsList-from_range 0 c.args.count c.args.count (cc) (omega arith)) (cc) (λ x r q k. search rules))
+    (λ x b q k. search (rules, tests))

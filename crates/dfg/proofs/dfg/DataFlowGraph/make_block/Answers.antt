@@ -7,4 +7,4 @@ use Rattle.dfg.proofs.dfg.DataFlowGraph.make_block.Goals as goal
 pub invariant_of-self : goal.invariant_of-self
 invariant_of-self c =
     let g = c.args.self.now in
-    record { well_formed = subst WellFormed (sym c.push_block.ensures) (block_kept (plain g) (omega arith) g.well_formed) }
+    record { well_formed = subst WellFormed (sym c.push_block.ensures.after) (block_kept (plain g) (omega arith) g.well_formed) }

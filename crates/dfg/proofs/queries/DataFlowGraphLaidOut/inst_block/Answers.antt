@@ -1,21 +1,16 @@
-use Rattle.std.proofs.Common.{◌<◌, length, Ok, Err, sym, ap, ◌∙◌, arith}
-use Rattle.std.proofs.lemmas.List.{get_or_read}
+use Rattle.std.proofs.Common.{◌∙◌}
 use Rattle.flow.specs.Layout.{InstRow}
-use Rattle.rows.specs.Rows.{Rows, no_inst}
-use Rattle.rows.proofs.Lawfulness.{inst_in, asked_inst_in, asked_inst_past}
 use Rattle.dfg.specs.Plain.{plain}
+use Rattle.dfg.proofs.Decoding.{exit_is}
+use Rattle.dfg.proofs.Asking.{inst_refused, inst_answered}
 use Rattle.dfg.proofs.queries.DataFlowGraphLaidOut.inst_block.Goals as goal
 
-pub returns-then-i-len : goal.returns-then-i-len
-returns-then-i-len c =
+pub returns-in_err-inst : goal.returns-in_err-inst
+returns-in_err-inst c =
     let g = c.args.self.now in
-    ap Err c.refuse.ensures ∙ sym (asked_inst_past (plain g) g.well_formed.0 c.args.inst.0 _ (omega (arith, g.tables.insts.ok.0)))
+    exit_is _ _ c.from_residual.ensures.1 ∙ inst_refused (plain g) g.well_formed.0 c.args.inst.0 _ c.in_err-inst.field-0.0 c.in_err-inst.ensures
 
 pub returns : goal.returns
 returns c =
     let g = c.args.self.now in
-    let p : Rows = plain g in
-    let l : c.args.inst.0 < length p.insts = omega (arith, g.tables.insts.ok.0) in
-    ap (λ row. Ok row.block) (get_or_read p.insts c.args.inst.0 c.index.result.now l c.index.ensures no_inst)
-    ∙ sym (ap (λ (x : InstRow). Ok x.block) (inst_in p g.well_formed.0 c.args.inst.0 l))
-    ∙ sym (asked_inst_in p g.well_formed.0 c.args.inst.0 _ l)
+    inst_answered (plain g) g.well_formed.0 c.args.inst.0 (λ (x : InstRow). x.block) c.in_ok-inst.field-0 c.in_ok-inst.ensures

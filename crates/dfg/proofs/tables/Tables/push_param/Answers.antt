@@ -8,4 +8,4 @@ pub invariant_of-self-clause-settled : goal.invariant_of-self-clause-settled
 invariant_of-self-clause-settled c =
     let t = c.args.self.now in
     subst Settled (sym c.push_reserved.ensures.items)
-    (settled_more (vec_items t.values) (Param c.type_or_invalid-ty.result c.num_block_params-num.result c.args.block ∷ []) (refl, tt) t.settled)
+    (settled_more (vec_items t.values) (Param c.args.ty c.num_block_params-num.result c.args.block ∷ []) (refl, tt) t.settled)
