@@ -1,10 +1,11 @@
 -- Value rows that are added, one after another, and deleted: aliases go on coming to an end. Assumes nothing.
-use Rattle.std.proofs.Common.{◌≡◌, ℕ, zero, suc, ◌+◌, ◌<◌, ◌≤◌, List, [], ◌∷◌, ◌++◌, map, length, get_or, take, sym, ap, ◌∙◌, subst, append_assoc, arith}
+use Rattle.std.proofs.Common.{◌≡◌, ℕ, zero, suc, ◌+◌, ◌<◌, ◌≤◌, List, [], ◌∷◌, ◌++◌, map, length, get_or, take, sym, refl, ap, ◌∙◌, subst, append_assoc, arith}
+use Rattle.ir.specs.declared.entities.Block.{Block}
 use Rattle.ir.specs.declared.types.Type as T
 use Rattle.rows.specs.Rows.{erased}
 use Rattle.rows.specs.WellFormed.{Settled}
 use Rattle.rows.specs.declared.value.ValueData.{ValueData}
-use Rattle.rows.specs.declared.value.ValueData.TheVariants.{Inst}
+use Rattle.rows.specs.declared.value.ValueData.TheVariants.{Inst, Param}
 use Rattle.plain.proofs.Chains.{settled_more, settled_erased}
 use Rattle.plain.proofs.Steps.{rows_end}
 use Rattle.ir.specs.Codes.{type_or}
@@ -26,6 +27,10 @@ pub rows_pushed : (old rows now : List ValueData) (types : List ℕ) (n i : ℕ)
 rows_pushed old rows now types n i t few l e before pushed =
     pushed ∙ ap (λ xs. xs ++ Inst t i (record { 0 = n }) ∷ []) before
     ∙ append_assoc old (result_rows (take i types) n) _ ∙ ap (λ xs. old ++ xs) (sym (rows_more types n i t few l e))
+
+-- parameters and results are no aliases
+pub settled_param : (rows now : List ValueData) (ty : T.Type) (num : ℕ) (block : Block) → Settled rows → now ≡ rows ++ Param ty num block ∷ [] → Settled now
+settled_param rows now ty num block s e = subst Settled (sym e) (settled_more rows (Param ty num block ∷ []) (refl, tt) s)
 
 pub settled_results : (rows now : List ValueData) (types : List ℕ) (n : ℕ) → Settled rows → now ≡ rows ++ result_rows types n → Settled now
 settled_results rows now types n s e = subst Settled (sym e) (settled_more rows (result_rows types n) (rows_end types n) s)
