@@ -11,7 +11,7 @@ use ir::Refusal;
 use std::alloc::{AllocError, Global};
 
 /// What a list of building calls made: the graph, and the answer to each call, in order.
-#[derive(Drop)]
+#[derive(Debug, Drop)]
 pub struct Built {
     pub graph: DataFlowGraph,
     pub answers: Vec<Result<Answer, Refusal>>,

@@ -19,18 +19,16 @@ pub fn apply(
     ensures marks { marks.new ≡ marks_after (plain graph.old) (call_of call.now) marks.old }
 {
     match call {
-        BuildCall::MakeBlock => Ok(Answer::Block(graph.make_block()?)),
+        BuildCall::MakeBlock => graph.make_block().map(Answer::Block),
         BuildCall::AppendBlockParam(block, ty) => {
-            Ok(Answer::Value(graph.append_block_param(*block, *ty)?))
+            graph.append_block_param(*block, *ty).map(Answer::Value)
         }
-        BuildCall::AppendInst(new) => Ok(Answer::Inst(graph.append_inst(new)?)),
-        BuildCall::ClearResults(inst) => {
-            graph.clear_results(*inst)?;
-            Ok(Answer::Done)
-        }
+        BuildCall::AppendInst(new) => graph.append_inst(new).map(Answer::Inst),
+        BuildCall::ClearResults(inst) => graph.clear_results(*inst).map(|()| Answer::Done),
         BuildCall::ChangeToAlias(dest, src) => {
-            graph.change_to_alias(*dest, *src, marks)?;
-            Ok(Answer::Done)
+            graph
+                .change_to_alias(*dest, *src, marks)
+                .map(|()| Answer::Done)
         }
         BuildCall::ResolveAllAliases => {
             graph.resolve_all_aliases();

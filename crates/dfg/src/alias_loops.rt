@@ -7,7 +7,7 @@ ghost use Rattle.rows.specs.Meaning.{flow as flow_of};
 ghost use Rattle.dfg.specs.Plain.{plain};
 ghost use Rattle.dfg.specs.Finders.{MarksOf};
 ghost use Rattle.plain.specs.Marks.{swept};
-ghost use Rattle.plain.specs.Loops.{reaches_through, lowest_in_loop, loop_refusal};
+ghost use Rattle.plain.specs.Loops.{through, reaches_through, lowest_in_loop, loop_refusal};
 
 use crate::dfg::DataFlowGraph;
 use crate::finders::{AliasFinder, LoopMarker, lowest_marked};
@@ -16,7 +16,7 @@ use ir::{Cause, Refusal, Value};
 use walk::post_order_dfs;
 
 /// A new alias to be judged: `dest`, as another name for a live `original`.
-#[derive(Clone, Copy)]
+#[derive(Clone, Copy, Debug)]
 pub(crate) struct NewAlias<'a> {
     pub graph: &'a DataFlowGraph,
     pub dest: Value,
@@ -25,16 +25,20 @@ pub(crate) struct NewAlias<'a> {
 }
 
 impl NewAlias<'_> {
+    /// Whether a value's aliases lead through `dest`.
+    pub(crate) fn leads_through(&self, v: Value) -> bool
+        ensures { result ≡ through self.now.graph.now.tables.values.items self.now.dest.0 v.0 }
+    {
+        self.graph.tables.leads_through(v, self.dest)
+    }
+
     /// Whether the original reaches a value whose aliases lead through `dest`.
     fn makes_loop(&self, marks: &mut [u8]) -> bool
         requires { 1024 ≤ length marks.old }
         ensures found { result ≡ reaches_through (plain self.now.graph.now) self.now.dest.0 self.now.original.0 }
         ensures marks { marks.new ≡ swept marks.old }
     {
-        let mut finder = AliasFinder {
-            graph: self.graph,
-            dest: self.dest,
-        };
+        let mut finder = AliasFinder { alias: *self };
         post_order_dfs(self.graph, self.original, marks, &mut finder).is_err()
     }
 
@@ -45,14 +49,13 @@ impl NewAlias<'_> {
         ensures marks { marks.new ≡ swept marks.old }
     {
         let mut marker = LoopMarker {
-            graph: self.graph,
-            dest: self.dest,
+            alias: *self,
             marked: [false; 1024],
         };
-        match post_order_dfs(self.graph, self.original, marks, &mut marker) {
-            Ok(_) => marker.marked,
-            Err(_) => unreachable!(),
-        }
+        let Ok(_) = post_order_dfs(self.graph, self.original, marks, &mut marker) else {
+            unreachable!()
+        };
+        marker.marked
     }
 
     /// The lowest value that would be in a loop, or the one behind the last.

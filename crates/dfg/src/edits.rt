@@ -111,12 +111,12 @@ impl Tables {
     }
 
     /// The row of an instruction, to change in place.
-    fn inst_mut(&mut self, i: usize) -> &mut InstructionData
-        requires { i < vec_len self.old.insts }
-        ensures* follows { sem 𝓛 (follows the_row the_inst_row self.entry.ghost_name result.ghost_name (λ w. record self.old { insts = with_item self.old.insts i w })) }
-        ensures value { result.now ≡ slice_index_or self.old.insts.items i result.now }
+    fn inst_mut(&mut self, inst: Inst) -> &mut InstructionData
+        requires { inst.0 < vec_len self.old.insts }
+        ensures* follows { sem 𝓛 (follows the_row the_inst_row self.entry.ghost_name result.ghost_name (λ w. record self.old { insts = with_item self.old.insts inst.0 w })) }
+        ensures value { result.now ≡ slice_index_or self.old.insts.items inst.0 result.now }
     {
-        &mut self.insts[i]
+        &mut self.insts[inst.0 as usize]
     }
 
     /// Empties an instruction's list of results.
@@ -124,7 +124,7 @@ impl Tables {
         requires { inst.0 < length self.old.insts.items }
         ensures { held self.new ≡ grown (held self.old) (ClearResults inst) }
     {
-        self.inst_mut(inst.0 as usize).results = Results::Empty;
+        self.inst_mut(inst).results = Results::Empty;
     }
 
     /// Makes a value another name for an original, which is another value.
@@ -142,6 +142,7 @@ impl Tables {
     fn resolved(&self, args: Operands) -> Operands
         ensures { result ≡ map_args (original (held self.now)) args }
     {
+        // Case by case: an iterator gives operands one by one, and none makes `Operands` of what it gives.
         match args {
             Operands::Nullary => Operands::Nullary,
             Operands::Unary(a) => Operands::Unary(self.resolve_aliases(a)),
@@ -160,21 +161,21 @@ impl Tables {
     }
 
     /// Makes each operand of one instruction its original.
-    fn resolve_inst(&mut self, i: usize)
-        requires { i < vec_len self.old.insts }
-        ensures { held self.new ≡ record (held self.old) { insts = slice_set self.old.insts.items i (rewritten (original (held self.old)) (inst_at (held self.old) i)) } }
+    fn resolve_inst(&mut self, inst: Inst)
+        requires { inst.0 < vec_len self.old.insts }
+        ensures { held self.new ≡ record (held self.old) { insts = slice_set self.old.insts.items inst.0 (rewritten (original (held self.old)) (inst_at (held self.old) inst.0)) } }
     {
-        let args = self.resolved(self.insts[i].args);
-        self.inst_mut(i).args = args;
+        let args = self.resolved(self.inst_data(inst).args);
+        self.inst_mut(inst).args = args;
     }
 
     /// Makes every operand of every instruction its original.
     fn resolve_operands(&mut self)
         ensures { held self.new ≡ record (held self.old) { insts = map (rewritten (original (held self.old))) self.old.insts.items } }
     {
-        // by number: each row is lent through the tables, which tell the originals
-        for i in 0..self.insts.len() {
-            self.resolve_inst(i);
+        // By number: each row is lent through the tables, which are asked for the originals meanwhile.
+        for i in 0..self.insts.len() as u32 {
+            self.resolve_inst(Inst(i));
         }
     }
 

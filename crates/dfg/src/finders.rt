@@ -8,34 +8,33 @@ ghost use Rattle.dfg.specs.Plain.{plain};
 ghost use Rattle.plain.specs.Loops.{through, any_through, any_of};
 ghost use Rattle.dfg.specs.Finders.{NoneThrough, none_yet, Marked, unmarked, marked_but};
 
-use crate::dfg::DataFlowGraph;
+use crate::alias_loops::NewAlias;
 use flow::value_args;
 use ir::{Operands, Value};
 use std::convert::Infallible;
 use walk::Visitor;
 
 /// A value was found whose aliases lead through the destination.
-#[derive(Clone, Copy)]
-pub struct Found;
+#[derive(Clone, Copy, PartialEq, Eq, Debug)]
+pub(crate) struct Found;
 
-/// Looks for a value whose aliases lead through `dest`, and stops at the first.
-#[derive(Drop)]
-pub struct AliasFinder<'a> {
-    pub graph: &'a DataFlowGraph,
-    pub dest: Value,
+/// Looks for a value whose aliases lead through the destination, and stops at the first.
+#[derive(Debug, Drop)]
+pub(crate) struct AliasFinder<'a> {
+    pub alias: NewAlias<'a>,
 }
 
 impl Visitor for AliasFinder<'_> {
     type Stop = Found;
 
-    ghost fits = { λ a shown b. NoneThrough a.graph.now.tables.values.items a.dest.0 shown b.graph.now.tables.values.items b.dest.0 };
+    ghost fits = { λ a shown b. NoneThrough a.alias.graph.now.tables.values.items a.alias.dest.0 shown b.alias.graph.now.tables.values.items b.alias.dest.0 };
 
-    ghost stops = { λ a shown b stop. any_through a.graph.now.tables.values.items a.dest.0 shown ≡ true };
+    ghost stops = { λ a shown b stop. any_through a.alias.graph.now.tables.values.items a.alias.dest.0 shown ≡ true };
 
-    ghost starts = { λ a. none_yet a.graph.now.tables.values.items a.dest.0 };
+    ghost starts = { λ a. none_yet a.alias.graph.now.tables.values.items a.alias.dest.0 };
 
     fn show(&mut self, v: Value) -> Result<(), Found> {
-        if self.graph.tables.leads_through(v, self.dest) {
+        if self.alias.leads_through(v) {
             return Err(Found);
         }
         Ok(())
@@ -76,14 +75,14 @@ fn any_marked(marked: &[bool], args: Operands) -> bool
     args.iter().any(|a| is_marked(marked, a))
 }
 
-/// Marks each value that it is shown and that reaches a value whose aliases lead through `dest`.
+/// Marks each value that it is shown and that reaches a value whose aliases lead through the destination.
 ///
-/// A walk shows a value after what it uses, so a value reaches one if its own aliases lead through `dest` or if one of
-/// its operands is marked.
-#[derive(Drop)]
-pub struct LoopMarker<'a> {
-    pub graph: &'a DataFlowGraph,
-    pub dest: Value,
+/// A walk shows a value after what it uses, so a value reaches one if its own aliases lead through the destination or if one
+/// of its operands is marked.
+#[derive(Debug, Drop)]
+pub(crate) struct LoopMarker<'a> {
+    pub alias: NewAlias<'a>,
+    // an array, since nothing may be allocated
     /// By value number.
     pub marked: [bool; 1024],
 }
@@ -91,21 +90,21 @@ pub struct LoopMarker<'a> {
 impl LoopMarker<'_> {
     /// Whether a value whose operands were shown reaches a value whose aliases lead through the destination.
     fn reaches(&self, v: Value) -> bool
-        ensures { result ≡ (through self.now.graph.now.tables.values.items self.now.dest.0 v.0 || any_of (λ u. slice_index_or self.now.marked u false) (uses (flow_of (plain self.now.graph.now)) v.0)) }
+        ensures { result ≡ (through self.now.alias.graph.now.tables.values.items self.now.alias.dest.0 v.0 || any_of (λ u. slice_index_or self.now.marked u false) (uses (flow_of (plain self.now.alias.graph.now)) v.0)) }
     {
-        let args = value_args(self.graph, v);
-        self.graph.tables.leads_through(v, self.dest) || any_marked(&self.marked, args)
+        let args = value_args(self.alias.graph, v);
+        self.alias.leads_through(v) || any_marked(&self.marked, args)
     }
 }
 
 impl Visitor for LoopMarker<'_> {
     type Stop = Infallible;
 
-    ghost fits = { λ a shown b. Marked (plain a.graph.now) a.dest.0 a.marked shown (plain b.graph.now) b.dest.0 b.marked };
+    ghost fits = { λ a shown b. Marked (plain a.alias.graph.now) a.alias.dest.0 a.marked shown (plain b.alias.graph.now) b.alias.dest.0 b.marked };
 
     ghost stops = { λ a shown b stop. ⊥ };
 
-    ghost starts = { λ a. unmarked (plain a.graph.now) a.dest.0 a.marked };
+    ghost starts = { λ a. unmarked (plain a.alias.graph.now) a.alias.dest.0 a.marked };
 
     fn show(&mut self, v: Value) -> Result<(), Infallible> {
         let reaches = self.reaches(v);

@@ -11,7 +11,7 @@ mod checks;
 mod decode;
 pub mod dfg;
 mod edits;
-pub mod finders;
+mod finders;
 pub mod queries;
 mod reads;
 mod tables;

@@ -50,6 +50,7 @@ impl Tables {
     pub(crate) fn leads_through(&self, value: Value, dest: Value) -> bool
         ensures { result ≡ through self.now.values.items dest.0 value.0 }
     {
+        // By a loop: `successors` along the aliases has no end to a proof, so it leaves `any` unproved.
         let mut v = value;
         while let ValueData::Alias { original, .. } = self.value_data(v) {
             if v == dest {

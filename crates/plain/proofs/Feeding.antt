@@ -1,9 +1,9 @@
 -- A list of calls with one call more, and one call's answers. Assumes nothing.
-use Rattle.std.proofs.Common.{◌≡◌, ℕ, List, [], ◌∷◌, ◌++◌, Some, None, Ok, Err, Option, sym, refl, ap, ◌∙◌, arith}
+use Rattle.std.proofs.Common.{◌≡◌, ℕ, List, [], ◌∷◌, ◌++◌, Some, None, Ok, Err, Option, Result, sym, refl, ap, ◌∙◌, subst, arith}
+use Rattle.std.specs.Result.{MatchResult, IsOkAnd}
 use Rattle.ir.specs.declared.refusal.Refusal.{Refusal}
 use Rattle.rows.specs.Rows.{Rows}
 use Rattle.calls.specs.Calls.{Call}
-use Rattle.calls.specs.declared.answer.Answer.{Answer}
 use Rattle.ir.specs.Refusals.{answer_unless}
 use Rattle.plain.specs.Feed.{refusal, grown, fed, fed_with, fed_unless, fed_all, answered, answer_to, answers_to}
 
@@ -34,12 +34,11 @@ module _ {A : Type 0} (marks : ℕ) (p : Rows) (c : Call) (x : A) where
   pub call_done : refusal p marks c ≡ None → (grown p c ≡ fed_with marks p c) × (Ok x ≡ answered marks p c x)
   call_done r = (sym (ap (λ o. fed_unless o p (grown p c)) r), sym (ap (λ o. answer_unless o x) r))
 
--- a call that is refused is refused for the same reason, whatever it would answer
-pub refused_as : {A : Type 0} (marks : ℕ) (p : Rows) (k c : Call) (x : A) (why : Refusal) → c ≡ k → Err why ≡ answered marks p k x → Err why ≡ answered marks p c (answer_to p c)
-refused_as marks p k c x why is e = sym (ap (λ o. answer_unless o (answer_to p k)) (refused (refusal p marks k) x why e)) ∙ sym (ap (λ c. answered marks p c (answer_to p c)) is)
-
--- and one that is not answers by what it made
-pub given_as : {A : Type 0} (marks : ℕ) (p : Rows) (k c : Call) (f : A → Answer) (x y : A) → c ≡ k → f y ≡ answer_to p k → Ok x ≡ answered marks p k y → Ok (f x) ≡ answered marks p c (answer_to p c)
-given_as marks p k c f x y is tells e =
-    let both = passed (refusal p marks k) x y e in
-    ap (λ z. Ok (f z)) both.1 ∙ sym (ap (λ o. answer_unless o (f y)) both.0) ∙ ap (answered marks p k) tells ∙ sym (ap (λ c. answered marks p c (answer_to p c)) is)
+-- what maps an answer keeps its refusal, and answers what it makes
+pub mapped : {A B : Type 0} (o : Option Refusal) (x : A) (y : B) (r : Result A Refusal) (out : Result B Refusal) (P : A → B → Type 0) → r ≡ answer_unless o x
+    → MatchResult r (λ a. IsOkAnd out (P a)) (λ e. out ≡ Err e) → ((b : B) → P x b → b ≡ y) → out ≡ answer_unless o y
+mapped None x y (Ok a) (Ok b) P e h f = let same : a ≡ x = cc in ap Ok (f b (subst (λ z. P z b) same h))
+mapped None x y (Ok a) (Err w) P e h f = absurd h
+mapped None x y (Err w) out P e h f = let z : ◌≡◌ {A = ℕ} 0 1 = cc in absurd (omega arith)
+mapped (Some w) x y (Ok a) out P e h f = let z : ◌≡◌ {A = ℕ} 0 1 = cc in absurd (omega arith)
+mapped (Some w) x y (Err v) out P e h f = let same : v ≡ w = cc in h ∙ ap Err same

@@ -15,24 +15,27 @@ loop-call-preserved c =
     let i : ℕ = c.loop-call.call-index in
     let call : BuildCall = c.call-item.result in
     let p : Rows = plain c.loop-call.graph in
-    let long : length c.loop-call.marks ≡ 1024 = c.loop-call.invariant.2 in
+    let long : length c.loop-call.marks ≡ 1024 = c.loop-call.invariant.marks in
     let more : map call_of (take (i + 1) calls) ≡ map call_of (take i calls) ++ call_of call ∷ [] =
     ap (map call_of) (take_more calls i call c.loop-call-test.true ∙ ap (λ x. take i calls ++ x ∷ []) (sym c.call-item.is)) ∙ map-append call_of (take i calls) (call ∷ []) in
-    let before : p ≡ fed_all empty (map call_of (take i calls)) = c.loop-call.invariant.0 in (
-      c.apply.ensures.after ∙ ap (λ n. fed_with n p (call_of call)) long ∙ ap (λ q. fed q (call_of call)) before
-          ∙ sym (ap (fed_all empty) more ∙ fed_more empty (map call_of (take i calls)) (call_of call)),
-      c.in_ok-push.ensures.items
-          ∙ ap (λ l. l ++ c.apply.result ∷ []) c.loop-call.invariant.1
+    let before : p ≡ fed_all empty (map call_of (take i calls)) = c.loop-call.invariant.graph in
+    record {
+      graph =
+          c.apply.ensures.after ∙ ap (λ n. fed_with n p (call_of call)) long ∙ ap (λ q. fed q (call_of call)) before
+          ∙ sym (ap (fed_all empty) more ∙ fed_more empty (map call_of (take i calls)) (call_of call));
+      answers =
+          c.in_ok-push.ensures.items
+          ∙ ap (λ l. l ++ c.apply.result ∷ []) c.loop-call.invariant.answers
           ∙ ap (λ r. answers_to empty (map call_of (take i calls)) ++ r ∷ [])
           (c.apply.ensures.value ∙ ap (λ n. answered n p (call_of call) (answer_to p (call_of call))) long ∙ ap (λ q. answered 1024 q (call_of call) (answer_to q (call_of call))) before)
-          ∙ sym (ap (answers_to empty) more ∙ answers_more empty (map call_of (take i calls)) (call_of call)),
-      c.apply.auto.marks ∙ long,
-    )
+          ∙ sym (ap (answers_to empty) more ∙ answers_more empty (map call_of (take i calls)) (call_of call));
+      marks = c.apply.auto.marks ∙ long;
+    }
 
 pub returns : goal.returns
 returns c =
     let all = take_all c.loop-call.call-index c.args.calls.now (omega arith) in
     record {
-      graph = c.loop-call.invariant.0 ∙ ap (λ l. fed_all empty (map call_of l)) all;
-      answers = c.loop-call.invariant.1 ∙ ap (λ l. answers_to empty (map call_of l)) all;
+      graph = c.loop-call.invariant.graph ∙ ap (λ l. fed_all empty (map call_of l)) all;
+      answers = c.loop-call.invariant.answers ∙ ap (λ l. answers_to empty (map call_of l)) all;
     }

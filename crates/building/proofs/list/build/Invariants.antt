@@ -8,6 +8,8 @@ use Rattle.building.proofs.list.build.Given as goal
 -- the calls so far made the graph and were answered
 abbrev pub invariant-loop-call : goal.invariant-loop-call
 invariant-loop-call l =
-    (plain l.graph ≡ fed_all empty (map call_of (take l.call-index l.calls)))
-    × (vec_items l.answers ≡ answers_to empty (map call_of (take l.call-index l.calls)))
-    × (length l.marks ≡ 1024)
+    record {
+      graph : plain l.graph ≡ fed_all empty (map call_of (take l.call-index l.calls));
+      answers : vec_items l.answers ≡ answers_to empty (map call_of (take l.call-index l.calls));
+      marks : length l.marks ≡ 1024;
+    }
