@@ -3,7 +3,7 @@ use Rattle.std.proofs.Common.{◌≡◌, ℕ, ◌<◌, ◌≤◌, Bool, true, fa
 use lib.ListN.{length-replicate}
 use Rattle.std.proofs.lemmas.List.{get_or-replicate}
 use Rattle.std.proofs.lemmas.Bool.{cases_eq, cases_Bool, false≢true}
-use Rattle.std.specs.List.{range_with_len}
+use Rattle.std.specs.List.{list_any, range_with_len}
 use Rattle.ir.specs.Entities.{value}
 use Rattle.ir.specs.declared.entities.Value.{Value}
 use Rattle.flow.specs.Meaning.{Flow, Lawful, live, uses, has}
@@ -19,7 +19,7 @@ use Rattle.walk.specs.declared.dfs.WalkError.{WalkError}
 use Rattle.walk.specs.declared.dfs.WalkError.TheVariants as errors
 use Rattle.dfg.specs.declared.finders.Found.{Found}
 use Rattle.dfg.specs.Finders.{MarksOf, Marked, NoneThrough, marked_but}
-use Rattle.plain.specs.Loops.{through, any_through, any_of, reaches_through, closes, first_from}
+use Rattle.plain.specs.Loops.{through, any_through, reaches_through, closes, first_from}
 use Rattle.plain.proofs.Through.{any_push, any_front}
 use Rattle.plain.proofs.Reaching.{any_same, reaches_unfolds}
 
@@ -31,7 +31,7 @@ module _ (p : Rows) (lawful : Lawful (flow p)) (d : ℕ) (shown : List ℕ) (v :
       let low : w < 1024 = omega (arith, live_exists (flow p) w (lawful.operands_live v w h), lawful.few) in
       is.each w low ∙ ap (λ b. b && reaches_through p d w) among
 
-  pub mark_more : (b : Bool) → b ≡ (through p.values d v || any_of (λ u. get_or before u false) (uses (flow p) v))
+  pub mark_more : (b : Bool) → b ≡ (through p.values d v || list_any (λ u. get_or before u false) (uses (flow p) v))
       → MarksOf p d (shown ++ (v ∷ [])) (set before v b)
   mark_more b e = record { long = length-set before v b ∙ is.long; each = λ u low. ⊎_elim (at u low) (beside u low) (cases_eq u v) }
     where
@@ -67,7 +67,7 @@ found_more rows d shown rows' d' v n t =
     ∙ sym (ap (λ rs. through rs d' v) n.same_rows ∙ ap (λ x. through rows x v) n.same_dest) ∙ t
 
 pub marked_more : (p : Rows) (d : ℕ) (first : List Bool) (shown : List ℕ) (p' : Rows) (d' : ℕ) (before after : List Bool) (v : ℕ) (b : Bool) → Lawful (flow p')
-    → Marked p d first shown p' d' before → b ≡ (through p'.values d' v || any_of (λ u. get_or before u false) (uses (flow p') v)) → after ≡ set before v b
+    → Marked p d first shown p' d' before → b ≡ (through p'.values d' v || list_any (λ u. get_or before u false) (uses (flow p') v)) → after ≡ set before v b
     → Marked p d first (shown ++ v ∷ []) p' d' after
 marked_more p d first shown p' d' before after v b lawful m e is =
     record {

@@ -1,11 +1,11 @@
 // The visitors that look for what a new alias would make a loop of.
 ghost use Rattle.std.specs.Prelude.{◌≡◌, true, false, ◌||◌, find, map, slice_index_or, slice_set};
-ghost use Rattle.std.specs.List.{range_with_len};
+ghost use Rattle.std.specs.List.{list_any, range_with_len};
 ghost use Rattle.ir.specs.Entities.{value, values};
 ghost use Rattle.flow.specs.Meaning.{uses};
 ghost use Rattle.rows.specs.Meaning.{flow as flow_of};
 ghost use Rattle.dfg.specs.Plain.{plain};
-ghost use Rattle.plain.specs.Loops.{through, any_through, any_of};
+ghost use Rattle.plain.specs.Loops.{through, any_through};
 ghost use Rattle.dfg.specs.Finders.{NoneThrough, none_yet, Marked, unmarked, marked_but};
 
 use crate::alias_loops::NewAlias;
@@ -52,7 +52,7 @@ fn is_marked(marked: &[bool], v: Value) -> bool
 fn mark(marked: &mut [bool], v: Value, reaches: bool)
     ensures { marked.new ≡ slice_set marked.old v.0 reaches }
 {
-    // by its index: of what `get_mut` lends, no clause of a slice says where it is written
+    // By its index: after `get_mut` of a slice a proof knows nothing of the elements.
     let i = v.0 as usize;
     if i < marked.len() {
         marked[i] = reaches;
@@ -70,7 +70,7 @@ pub(crate) fn lowest_marked(marked: &[bool], root: Value, count: u32) -> Option<
 
 /// Whether one of the operands is marked.
 fn any_marked(marked: &[bool], args: Operands) -> bool
-    ensures { result ≡ any_of (λ u. slice_index_or marked.now u false) (values args) }
+    ensures { result ≡ list_any (λ u. slice_index_or marked.now u false) (values args) }
 {
     args.iter().any(|a| is_marked(marked, a))
 }
@@ -82,15 +82,15 @@ fn any_marked(marked: &[bool], args: Operands) -> bool
 #[derive(Debug, Drop)]
 pub(crate) struct LoopMarker<'a> {
     pub alias: NewAlias<'a>,
-    // an array, since nothing may be allocated
     /// By value number.
+    // An array of fixed length: a building call allocates nothing.
     pub marked: [bool; 1024],
 }
 
 impl LoopMarker<'_> {
     /// Whether a value whose operands were shown reaches a value whose aliases lead through the destination.
     fn reaches(&self, v: Value) -> bool
-        ensures { result ≡ (through self.now.alias.graph.now.tables.values.items self.now.alias.dest.0 v.0 || any_of (λ u. slice_index_or self.now.marked u false) (uses (flow_of (plain self.now.alias.graph.now)) v.0)) }
+        ensures { result ≡ (through self.now.alias.graph.now.tables.values.items self.now.alias.dest.0 v.0 || list_any (λ u. slice_index_or self.now.marked u false) (uses (flow_of (plain self.now.alias.graph.now)) v.0)) }
     {
         let args = value_args(self.alias.graph, v);
         self.alias.leads_through(v) || any_marked(&self.marked, args)

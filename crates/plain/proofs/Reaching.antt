@@ -1,5 +1,6 @@
 -- What reaches a value whose aliases lead through another. Assumes nothing.
 use Rattle.std.proofs.Common.{◌≡◌, ℕ, Bool, true, false, ◌||◌, eqb, List, [], ◌∷◌, sym, refl, ap, ◌∙◌, subst, inl, inr}
+use Rattle.std.specs.List.{list_any}
 use Rattle.std.proofs.lemmas.Bool.{or_cases, or_left, or_right, eqb-true, false≢true}
 use Rattle.flow.specs.Meaning.{Lawful, Reach, here, through as further, uses, has}
 use Rattle.flow.specs.Walk.{walk}
@@ -7,8 +8,7 @@ use Rattle.flow.proofs.Among.{has_here}
 use Rattle.flow.proofs.Walks.{walk_is_post_order}
 use Rattle.rows.specs.Meaning.{flow}
 use Rattle.rows.specs.Rows.{Rows}
-use Rattle.rows.specs.declared.value.ValueData.{ValueData}
-use Rattle.plain.specs.Loops.{through, any_through, any_of, reaches_through}
+use Rattle.plain.specs.Loops.{through, reaches_through}
 
 -- two tests that pass together
 pub same_test : (a b : Bool) → (a ≡ true → b ≡ true) → (b ≡ true → a ≡ true) → a ≡ b
@@ -16,15 +16,15 @@ same_test true b f h = sym (f refl)
 same_test false true f h = h refl
 same_test false false f h = refl
 
-any_some : (test : ℕ → Bool) (vs : List ℕ) → any_of test vs ≡ true → (v : ℕ) × (has vs v ≡ true) × (test v ≡ true)
+any_some : (test : ℕ → Bool) (vs : List ℕ) → list_any test vs ≡ true → (v : ℕ) × (has vs v ≡ true) × (test v ≡ true)
 any_some test [] e = absurd (false≢true e)
 any_some test (v ∷ vs) e =
-    elim (or_cases (test v) (any_of test vs) e) [
+    elim (or_cases (test v) (list_any test vs) e) [
       | inl h ↦ (v, has_here v vs, h)
       | inr h ↦ let s = any_some test vs h in (s.0, or_right (eqb v s.0) _ s.1, s.2)
     ]
 
-some_any : (test : ℕ → Bool) (vs : List ℕ) (v : ℕ) → has vs v ≡ true → test v ≡ true → any_of test vs ≡ true
+some_any : (test : ℕ → Bool) (vs : List ℕ) (v : ℕ) → has vs v ≡ true → test v ≡ true → list_any test vs ≡ true
 some_any test [] v h t = absurd (false≢true h)
 some_any test (u ∷ vs) v h t =
     elim (or_cases (eqb u v) (has vs v) h) [
@@ -32,31 +32,26 @@ some_any test (u ∷ vs) v h t =
       | inr e ↦ or_right (test u) _ (some_any test vs v e t)
     ]
 
-pub any_same : (f h : ℕ → Bool) (vs : List ℕ) → ((v : ℕ) → has vs v ≡ true → f v ≡ h v) → any_of f vs ≡ any_of h vs
+pub any_same : (f h : ℕ → Bool) (vs : List ℕ) → ((v : ℕ) → has vs v ≡ true → f v ≡ h v) → list_any f vs ≡ list_any h vs
 any_same f h vs same =
-    same_test (any_of f vs) (any_of h vs)
+    same_test (list_any f vs) (list_any h vs)
     (λ e. let s = any_some f vs e in some_any h vs s.0 s.1 (sym (same s.0 s.1) ∙ s.2))
     (λ e. let s = any_some h vs e in some_any f vs s.0 s.1 (same s.0 s.1 ∙ s.2))
-
-any_through_is : (rows : List ValueData) (d : ℕ) (vs : List ℕ) → any_through rows d vs ≡ any_of (through rows d) vs
-any_through_is rows d [] = refl
-any_through_is rows d (v ∷ vs) = ap (λ b. through rows d v || b) (any_through_is rows d vs)
 
 module _ (p : Rows) (lawful : Lawful (flow p)) (d : ℕ) where
   pub reaches_some : (v : ℕ) → reaches_through p d v ≡ true → (u : ℕ) × Reach (flow p) v u × (through p.values d u ≡ true)
   unfolding reaches_through
   reaches_some v e =
-      let s = any_some (through p.values d) (walk (flow p) v) (sym (any_through_is p.values d (walk (flow p) v)) ∙ e) in
+      let s = any_some (through p.values d) (walk (flow p) v) e in
       (s.0, (walk_is_post_order (flow p) lawful v).reached s.0 s.1, s.2)
 
   pub some_reaches : (v u : ℕ) → Reach (flow p) v u → through p.values d u ≡ true → reaches_through p d v ≡ true
   unfolding reaches_through
   some_reaches v u r t =
-      any_through_is p.values d (walk (flow p) v)
-      ∙ some_any (through p.values d) (walk (flow p) v) u ((walk_is_post_order (flow p) lawful v).complete u r) t
+      some_any (through p.values d) (walk (flow p) v) u ((walk_is_post_order (flow p) lawful v).complete u r) t
 
   -- a value reaches such a value if it is one, or if one of its operands reaches one
-  pub reaches_unfolds : (v : ℕ) → reaches_through p d v ≡ (through p.values d v || any_of (reaches_through p d) (uses (flow p) v))
+  pub reaches_unfolds : (v : ℕ) → reaches_through p d v ≡ (through p.values d v || list_any (reaches_through p d) (uses (flow p) v))
   reaches_unfolds v =
       same_test _ _
       (λ e. let s = reaches_some v e in onward s.0 s.1 s.2)
@@ -69,7 +64,7 @@ module _ (p : Rows) (lawful : Lawful (flow p)) (d : ℕ) where
             some_reaches v s.0 (further w.0 w.1 s.1) s.2
       ])
     where
-      onward : (u : ℕ) → Reach (flow p) v u → through p.values d u ≡ true → (through p.values d v || any_of (reaches_through p d) (uses (flow p) v)) ≡ true
+      onward : (u : ℕ) → Reach (flow p) v u → through p.values d u ≡ true → (through p.values d v || list_any (reaches_through p d) (uses (flow p) v)) ≡ true
       onward u (here e) t = or_left (through p.values d v) _ (ap (through p.values d) e ∙ t)
       onward u (further w h r) t =
           or_right (through p.values d v) _ (some_any (reaches_through p d) (uses (flow p) v) w h (some_reaches w u r t))

@@ -1,5 +1,5 @@
 -- Whether aliases lead through a value, and what the finders find. Assumes nothing.
-use Rattle.std.proofs.Common.{◌≡◌, ℕ, zero, suc, ◌+◌, ◌-◌, ◌<◌, ◌≤◌, Bool, true, false, cond, ◌||◌, eqb, List, [], ◌∷◌, ◌++◌, get_or, count_by, sym, refl, ap, ◌∙◌, subst, inl, inr, arith}
+use Rattle.std.proofs.Common.{◌≡◌, ℕ, zero, suc, ◌+◌, ◌<◌, Bool, true, false, cond, ◌||◌, eqb, List, [], ◌∷◌, ◌++◌, get_or, count_by, sym, refl, ap, ◌∙◌, subst, inl, inr, arith}
 use Rattle.std.proofs.lemmas.Bool.{or_left, or_right, or_cases, or_parts, eq-eqb, ne_eqb, eqb-true, false≢true}
 use Rattle.flow.specs.Meaning.{has}
 use Rattle.rows.specs.Rows.{step_in, is_alias, follow}
@@ -65,25 +65,7 @@ none_through rows d (v ∷ vs) w e h =
     elim (or_cases (eqb v w) (has vs w) h)
     [ inl same ↦ subst (λ x. through rows d x ≡ false) (eqb-true v w same) parts.0 | inr more ↦ none_through rows d vs w parts.1 more ]
 
--- ---- the first number that passes a test
-
-pub first_here : (test : ℕ → Bool) (n i : ℕ) → i < n → test i ≡ true → first_from test (n - i) i ≡ i
-unfolding first_from
-first_here test n i l e =
-    let m : n - i ≡ suc (n - (i + 1)) = omega arith in
-    ap (λ k. first_from test k i) m ∙ ap (λ b. cond b i (first_from test (n - (i + 1)) (suc i))) e
-
-pub first_step : (test : ℕ → Bool) (n i : ℕ) → i < n → test i ≡ false → first_from test (n - (i + 1)) (i + 1) ≡ first_from test (n - i) i
-unfolding first_from
-first_step test n i l e =
-    let m : n - i ≡ suc (n - (i + 1)) = omega arith in
-    let next : i + 1 ≡ suc i = omega arith in
-    ap (first_from test (n - (i + 1))) next
-    ∙ sym (ap (λ k. first_from test k i) m ∙ ap (λ b. cond b i (first_from test (n - (i + 1)) (suc i))) e)
-
-pub first_end : (test : ℕ → Bool) (n i : ℕ) → n ≤ i → first_from test (n - i) i ≡ i
-unfolding first_from
-first_end test n i l = let m : n - i ≡ 0 = omega arith in ap (λ k. first_from test k i) m
+-- ---- the first number that passes a test, for two tests that agree
 
 pub first_same : (f h : ℕ → Bool) (n v : ℕ) → ((u : ℕ) → u < n + v → f u ≡ h u) → first_from f n v ≡ first_from h n v
 unfolding first_from

@@ -1,5 +1,6 @@
 -- The loops that a new alias would make. Assumes nothing.
-use Rattle.std.specs.Prelude.{ℕ, zero, suc, Bool, false, cond, not, ◌&&◌, ◌||◌, List, [], ◌∷◌, length, Some, None, count_by, Option, ◌==◌, slice_index_or}
+use Rattle.std.specs.Prelude.{ℕ, zero, suc, Bool, cond, not, ◌&&◌, ◌||◌, List, length, Some, None, count_by, Option, ◌==◌, slice_index_or}
+use Rattle.std.specs.List.{list_any}
 use Rattle.ir.specs.declared.refusal.Cause.TheVariants.{Loop}
 use Rattle.ir.specs.declared.refusal.Refusal.{Refusal}
 use Rattle.flow.specs.Meaning.{has}
@@ -20,13 +21,7 @@ through rows d v = leads rows d (count_by is_alias rows) v
 
 -- do the aliases of one of the values lead through d
 abbrev pub any_through : List ValueData → ℕ → List ℕ → Bool
-any_through rows d [] = false
-any_through rows d (v ∷ vs) = through rows d v || any_through rows d vs
-
--- does one of the values pass the test
-abbrev pub any_of : (ℕ → Bool) → List ℕ → Bool
-any_of test [] = false
-any_of test (v ∷ vs) = test v || any_of test vs
+any_through rows d vs = list_any (through rows d) vs
 
 -- does v reach a value whose aliases lead through d
 unfoldable pub reaches_through : Rows → ℕ → ℕ → Bool
