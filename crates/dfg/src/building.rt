@@ -1,5 +1,5 @@
 // The building calls.
-ghost use Rattle.std.specs.Prelude.{◌≡◌, ◌<◌, length, IfOk};
+ghost use Rattle.std.specs.Prelude.{◌≡◌, length, IfOk};
 ghost use Rattle.rows.specs.Rows.{empty};
 ghost use Rattle.calls.specs.Calls.{MakeBlock, AppendBlockParam, AppendInst, ClearResults, ChangeToAlias, ResolveAllAliases, inst_of};
 ghost use Rattle.plain.specs.AliasLoops.{JudgedByLoops};
@@ -16,6 +16,7 @@ use std::alloc::{AllocError, Global};
 
 impl DataFlowGraph {
     /// An empty graph, with room for all that it may ever hold, so that no building call runs out of memory.
+    #[tactic(auto, using(plain::proofs::Kept::empty_loopless))]
     pub fn new(heap: Global) -> Result<DataFlowGraph, AllocError>
         ensures { IfOk result (λ g. plain g ≡ empty) }
     {

@@ -1,6 +1,5 @@
 // What the types in a call stand for.
-ghost use Rattle.std.specs.Prelude.{◌≡◌, ◌<◌, is_some};
-ghost use Rattle.ir.specs.Codes.{type_at};
+ghost use Rattle.std.specs.Prelude.{◌≡◌, ◌<◌};
 ghost use Rattle.plain.specs.Feed.{types_known, first_type, results_from};
 
 use ir::{Type, Value};

@@ -1,5 +1,5 @@
 // The changes that building calls make to the tables.
-ghost use Rattle.std.specs.Prelude.{◌≡◌, ◌≢◌, false, ◌+◌, ◌<◌, ◌≤◌, ◌∷◌, [], ◌++◌, map, length, count_by, IfOk, vec_len, vec_capacity, slice_index_or, slice_set};
+ghost use Rattle.std.specs.Prelude.{◌≡◌, ◌≢◌, false, ◌+◌, ◌<◌, ◌≤◌, ◌∷◌, [], ◌++◌, map, length, IfOk, vec_len, vec_capacity, slice_index_or, slice_set};
 ghost use Rattle.std.specs.Borrow.{sem, follows};
 ghost use Rattle.std.specs.Vec.{with_item};
 ghost use Rattle.rows.specs.Rows.{original, erased, empty, inst_at, value_at, is_alias, type_in};
