@@ -18,9 +18,11 @@ use Rattle.walk.specs.Outcome.{Walked}
 use Rattle.walk.specs.declared.dfs.WalkError.{WalkError}
 use Rattle.walk.specs.declared.dfs.WalkError.TheVariants as errors
 use Rattle.dfg.specs.declared.finders.Found.{Found}
-use Rattle.dfg.specs.Finders.{MarksOf, Marked, NoneThrough, marked_but}
+use Rattle.dfg.specs.Plain.{plain}
+use Rattle.dfg.specs.declared.alias_loops.NewAlias.{NewAlias}
+use Rattle.dfg.specs.Finders.{MarksOf, Marked, marked_but}
 use Rattle.plain.specs.Loops.{through, any_through, reaches_through, closes, first_from}
-use Rattle.plain.proofs.Through.{any_push, any_front}
+use Rattle.plain.proofs.Through.{any_front}
 use Rattle.plain.proofs.Reaching.{any_same, reaches_unfolds}
 
 -- one value more is shown, and marked if it reaches a value whose aliases lead through d
@@ -47,40 +49,23 @@ module _ (p : Rows) (lawful : Lawful (flow p)) (d : ℕ) (shown : List ℕ) (v :
           get_or-set_other before v u b false other ∙ is.each u low
           ∙ ap (λ c. c && reaches_through p d u) (sym (has_push_other shown v u (λ same. other (sym same))))
 
--- ---- what the visitors know after one value more
+-- ---- what the marker knows after one value more
 
-pub none_more : (rows : List ValueData) (d : ℕ) (shown : List ℕ) (rows' : List ValueData) (d' v : ℕ) → NoneThrough rows d shown rows' d'
-    → through rows' d' v ≡ false → NoneThrough rows d (shown ++ v ∷ []) rows' d'
-none_more rows d shown rows' d' v n t =
+pub marked_more : (a b : NewAlias) (first : List Bool) (shown : List ℕ) (before after : List Bool) (v : ℕ) (x : Bool) → Lawful (flow (plain b.graph.now))
+    → Marked a first shown b before
+    → x ≡ (through (plain b.graph.now).values b.dest.0 v || list_any (λ u. get_or before u false) (uses (flow (plain b.graph.now)) v))
+    → after ≡ set before v x → Marked a first (shown ++ v ∷ []) b after
+marked_more a b first shown before after v x lawful m e is =
+    let p : Rows = plain a.graph.now in
+    let law = subst (λ (c : NewAlias). Lawful (flow (plain c.graph.now))) m.same lawful in
+    let same = subst
+    (λ (c : NewAlias). x ≡ (through (plain c.graph.now).values c.dest.0 v || list_any (λ u. get_or before u false) (uses (flow (plain c.graph.now)) v)))
+    m.same e in
     record {
-      same_rows = n.same_rows;
-      same_dest = n.same_dest;
-      none =
-          any_push rows d shown v ∙ ap (λ b. b || through rows d v) n.none
-          ∙ sym (ap (λ rs. through rs d' v) n.same_rows ∙ ap (λ x. through rows x v) n.same_dest) ∙ t;
-    }
-
-pub found_more : (rows : List ValueData) (d : ℕ) (shown : List ℕ) (rows' : List ValueData) (d' v : ℕ) → NoneThrough rows d shown rows' d'
-    → through rows' d' v ≡ true → any_through rows d (shown ++ v ∷ []) ≡ true
-found_more rows d shown rows' d' v n t =
-    any_push rows d shown v ∙ ap (λ b. b || through rows d v) n.none
-    ∙ sym (ap (λ rs. through rs d' v) n.same_rows ∙ ap (λ x. through rows x v) n.same_dest) ∙ t
-
-pub marked_more : (p : Rows) (d : ℕ) (first : List Bool) (shown : List ℕ) (p' : Rows) (d' : ℕ) (before after : List Bool) (v : ℕ) (b : Bool) → Lawful (flow p')
-    → Marked p d first shown p' d' before → b ≡ (through p'.values d' v || list_any (λ u. get_or before u false) (uses (flow p') v)) → after ≡ set before v b
-    → Marked p d first (shown ++ v ∷ []) p' d' after
-marked_more p d first shown p' d' before after v b lawful m e is =
-    record {
-      same_rows = m.same_rows;
-      same_dest = m.same_dest;
+      same = m.same;
       marks = λ none order.
-          subst (λ q. MarksOf q d (shown ++ v ∷ []) after) m.same_rows
-          (subst (λ x. MarksOf p' x (shown ++ v ∷ []) after) m.same_dest
-          (subst (MarksOf p' d' (shown ++ v ∷ [])) (sym is)
-          (mark_more p' lawful d' shown v (subst (λ q. Topological (flow q) (shown ++ v ∷ [])) (sym m.same_rows) order) before
-          (subst (λ x. MarksOf p' x shown before) (sym m.same_dest)
-          (subst (λ q. MarksOf q d shown before) (sym m.same_rows) (m.marks none (topological_left (flow p) shown (v ∷ []) order))))
-          b e)));
+          subst (MarksOf p a.dest.0 (shown ++ v ∷ [])) (sym is)
+          (mark_more p law a.dest.0 shown v order before (m.marks none (topological_left (flow p) shown (v ∷ []) order)) x same);
     }
 
 -- before a walk nothing is marked

@@ -5,7 +5,6 @@ ghost use Rattle.flow.specs.Meaning.{live};
 ghost use Rattle.flow.specs.Walk.{walk};
 ghost use Rattle.rows.specs.Meaning.{flow as flow_of};
 ghost use Rattle.dfg.specs.Plain.{plain};
-ghost use Rattle.dfg.specs.Finders.{MarksOf};
 ghost use Rattle.plain.specs.Marks.{swept};
 ghost use Rattle.plain.specs.Loops.{through, reaches_through, lowest_in_loop, loop_refusal};
 
@@ -25,6 +24,8 @@ pub(crate) struct NewAlias<'a> {
 }
 
 impl NewAlias<'_> {
+    ghost use Rattle.dfg.specs.Finders.{MarksOf};
+
     /// Whether a value's aliases lead through `dest`.
     pub(crate) fn leads_through(&self, v: Value) -> bool
         ensures { result ≡ through self.now.graph.now.tables.values.items self.now.dest.0 v.0 }

@@ -27,11 +27,11 @@ pub(crate) struct AliasFinder<'a> {
 impl Visitor for AliasFinder<'_> {
     type Stop = Found;
 
-    ghost fits = { λ a shown b. NoneThrough a.alias.graph.now.tables.values.items a.alias.dest.0 shown b.alias.graph.now.tables.values.items b.alias.dest.0 };
+    ghost fits = { λ a shown b. NoneThrough a.alias shown b.alias };
 
-    ghost stops = { λ a shown b stop. any_through a.alias.graph.now.tables.values.items a.alias.dest.0 shown ≡ true };
+    ghost stops = { λ a shown b stop. any_through (plain a.alias.graph.now).values a.alias.dest.0 shown ≡ true };
 
-    ghost starts = { λ a. none_yet a.alias.graph.now.tables.values.items a.alias.dest.0 };
+    ghost starts = { λ a. none_yet a.alias };
 
     fn show(&mut self, v: Value) -> Result<(), Found> {
         if self.alias.leads_through(v) {
@@ -100,11 +100,11 @@ impl LoopMarker<'_> {
 impl Visitor for LoopMarker<'_> {
     type Stop = Infallible;
 
-    ghost fits = { λ a shown b. Marked (plain a.alias.graph.now) a.alias.dest.0 a.marked shown (plain b.alias.graph.now) b.alias.dest.0 b.marked };
+    ghost fits = { λ a shown b. Marked a.alias a.marked shown b.alias b.marked };
 
     ghost stops = { λ a shown b stop. ⊥ };
 
-    ghost starts = { λ a. unmarked (plain a.alias.graph.now) a.alias.dest.0 a.marked };
+    ghost starts = { λ a. unmarked a.alias a.marked };
 
     fn show(&mut self, v: Value) -> Result<(), Infallible> {
         let reaches = self.reaches(v);

@@ -13,10 +13,6 @@ or_same : (b : Bool) → (b || b) ≡ b
 or_same true = refl
 or_same false = refl
 
-or_assoc : (a b c : Bool) → ((a || b) || c) ≡ (a || (b || c))
-or_assoc true b c = refl
-or_assoc false b c = refl
-
 leads_here : (rows : List ValueData) (d k v : ℕ) → eqb v d ≡ true → leads rows d k v ≡ true
 leads_here rows d zero v e = e
 leads_here rows d (suc k) v e = or_left _ _ e
@@ -43,14 +39,6 @@ unfolding through
 through_step rows d v s ne =
     let n : ℕ = count_by is_alias rows in
     sym (ap (λ b. b || leads rows d n (step_in v (get_or rows v Deleted))) (ne_eqb v d ne)) ∙ leads_more rows d n v (s v)
-
-pub any_push : (rows : List ValueData) (d : ℕ) (shown : List ℕ) (v : ℕ) → any_through rows d (shown ++ v ∷ []) ≡ (any_through rows d shown || through rows d v)
-any_push rows d [] v = or_end (through rows d v)
-  where
-    or_end : (b : Bool) → (b || false) ≡ b
-    or_end true = refl
-    or_end false = refl
-any_push rows d (x ∷ shown) v = ap (λ b. through rows d x || b) (any_push rows d shown v) ∙ sym (or_assoc (through rows d x) (any_through rows d shown) (through rows d v))
 
 -- what holds of a front of a walk's list holds of the list
 pub any_front : (rows : List ValueData) (d : ℕ) (front rest : List ℕ) → any_through rows d front ≡ true → any_through rows d (front ++ rest) ≡ true

@@ -7,4 +7,4 @@ pub returns : goal.returns
 returns c =
     let g = c.args.self.now.alias.graph.now in
     λ a shown f.
-    marked_more _ _ _ shown _ _ _ _ c.args.v.0 c.reaches-reaches.result (lawful (plain g) g.well_formed.0 g.well_formed.2) f c.reaches-reaches.ensures c.mark.ensures
+    marked_more _ _ _ shown _ _ c.args.v.0 c.reaches-reaches.result (lawful (plain g) g.well_formed.0 g.well_formed.2) f c.reaches-reaches.ensures c.mark.ensures
