@@ -15,6 +15,7 @@ use ir::{Cause, Refusal, Value};
 use walk::post_order_dfs;
 
 /// A new alias to be judged: `dest`, as another name for a live `original`.
+// The marks of its walks are no field: a struct that holds a `&mut` could not be copied into the visitors.
 #[derive(Clone, Copy, Debug)]
 pub(crate) struct NewAlias<'a> {
     pub graph: &'a DataFlowGraph,

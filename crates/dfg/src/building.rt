@@ -40,6 +40,7 @@ impl DataFlowGraph {
         ensures after { plain self.new ≡ fed (plain self.old) (AppendBlockParam block ty) }
         ensures value { result ≡ answered 1024 (plain self.old) (AppendBlockParam block ty) (next_value (plain self.old)) }
     {
+        // The bits are a number, as the caller gave them: one that no type has is refused here.
         let ty = Type::try_from(ty)?;
         if self.tables.blocks <= block.0 {
             return Err(Cause::NotLive.into());
