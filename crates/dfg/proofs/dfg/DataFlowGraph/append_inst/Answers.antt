@@ -1,15 +1,23 @@
-use Rattle.std.proofs.Common.{◌≡◌, ◌++◌, ◌∷◌, [], length, Ok, Some, None, sym, ap, ◌∙◌, subst, rules}
+use Rattle.std.proofs.Common.{◌≡◌, ℕ, List, ◌++◌, ◌∷◌, [], length, Ok, Some, None, sym, ap, ◌∙◌, subst, rules}
 use Rattle.ir.specs.Refusals.{or_else}
 use Rattle.rows.specs.Rows.{Rows}
+use Rattle.rows.specs.declared.instruction.InstructionData.{InstructionData}
 use Rattle.rows.specs.WellFormed.{WellFormed}
 use Rattle.calls.specs.Calls.{InstCall, AppendInst, inst_of}
-use Rattle.plain.specs.Feed.{refusal, result_rows, next_inst}
+use Rattle.plain.specs.Feed.{refusal, grown, inst_row, result_rows, next_inst}
 use Rattle.plain.proofs.Accepted.{inst_accepted}
 use Rattle.plain.proofs.Feeding.{passed, refused, call_refused, call_done}
 use Rattle.plain.proofs.Kept.{inst_kept}
 use Rattle.dfg.specs.Plain.{plain}
 use Rattle.dfg.proofs.Decoding.{exit_is}
 use Rattle.dfg.proofs.dfg.DataFlowGraph.append_inst.Goals as goal
+
+-- the row that was answered, and the types behind the reference
+pushed : (p : Rows) (n : InstCall) (row : InstructionData) (types : List ℕ) → types ≡ n.types → row ≡ inst_row p n
+    → record p { values = p.values ++ result_rows types (length p.insts); insts = p.insts ++ row ∷ [] } ≡ grown p (AppendInst n)
+pushed p n row types e is =
+    ap (λ ts. record p { values = p.values ++ result_rows ts (length p.insts); insts = p.insts ++ row ∷ [] }) e
+    ∙ ap (λ r. record p { values = p.values ++ result_rows n.types (length p.insts); insts = p.insts ++ r ∷ [] }) is
 
 pub returns-in_err-row : goal.returns-in_err-row
 returns-in_err-row c =
@@ -32,10 +40,7 @@ invariant_of-self c =
     let p : Rows = plain g in
     let n : InstCall = inst_of c.args.new.now in
     let row = passed _ _ _ c.in_ok-row.ensures in
-    let after =
-    c.push_inst.ensures.after
-    ∙ ap (λ ts. record p { values = p.values ++ result_rows ts (length p.insts); insts = p.insts ++ c.in_ok-row.row ∷ [] }) c.deref.ensures.value
-    ∙ ap (λ r. record p { values = p.values ++ result_rows n.types (length p.insts); insts = p.insts ++ r ∷ [] }) row.1 in
+    let after = c.push_inst.ensures.after ∙ pushed p n _ _ c.deref.ensures.value row.1 in
     record { well_formed = subst WellFormed (sym after) (inst_kept p n row.0 g.well_formed) }
 
 pub returns : goal.returns
@@ -45,10 +50,6 @@ returns c =
     let row = passed _ _ _ c.in_ok-row.ensures in
     let done = call_done 1024 p (AppendInst n) (next_inst p) (ap (λ o. or_else o None) row.0) in
     record {
-      after =
-          c.push_inst.ensures.after
-          ∙ ap (λ ts. record p { values = p.values ++ result_rows ts (length p.insts); insts = p.insts ++ c.in_ok-row.row ∷ [] }) c.deref.ensures.value
-          ∙ ap (λ r. record p { values = p.values ++ result_rows n.types (length p.insts); insts = p.insts ++ r ∷ [] }) row.1
-          ∙ done.0;
+      after = c.push_inst.ensures.after ∙ pushed p n _ _ c.deref.ensures.value row.1 ∙ done.0;
       value = ap Ok c.push_inst.ensures.inst ∙ done.1;
     }
