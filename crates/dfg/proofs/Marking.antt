@@ -1,9 +1,9 @@
 -- What the visitors that look for loops know after one value more, and after a walk. Assumes nothing.
-use Rattle.std.proofs.Common.{◌≡◌, ℕ, ◌<◌, ◌≤◌, Bool, true, false, not, ◌&&◌, ◌||◌, eqb, List, [], ◌∷◌, ◌++◌, get_or, set, replicate, Ok, Err, Result, is_err, Some, unwrap_or, find, zero, suc, ◌+◌, cond, map, sym, ap, ◌∙◌, subst, inl, inr, ⊎_elim, arith, length-set, get_or-set_other, get_or-set_same}
+use Rattle.std.proofs.Common.{None, Option, option_map, refl, ◌≡◌, ℕ, ◌<◌, ◌≤◌, Bool, true, false, not, ◌&&◌, ◌||◌, eqb, List, [], ◌∷◌, ◌++◌, get_or, set, replicate, Ok, Err, Result, is_err, Some, unwrap_or, find, cond, map, sym, ap, ◌∙◌, subst, inl, inr, ⊎_elim, arith, length-set, get_or-set_other, get_or-set_same}
 use lib.ListN.{length-replicate}
 use Rattle.std.proofs.lemmas.List.{get_or-replicate}
 use Rattle.std.proofs.lemmas.Bool.{cases_eq, cases_Bool, false≢true}
-use Rattle.std.specs.List.{list_any, range_with_len}
+use Rattle.std.specs.List.{list_any}
 use Rattle.ir.specs.Entities.{value}
 use Rattle.ir.specs.declared.entities.Value.{Value}
 use Rattle.flow.specs.Meaning.{Flow, Lawful, live, uses, has}
@@ -21,7 +21,7 @@ use Rattle.dfg.specs.declared.finders.Found.{Found}
 use Rattle.dfg.specs.Plain.{plain}
 use Rattle.dfg.specs.declared.alias_loops.NewAlias.{NewAlias}
 use Rattle.dfg.specs.Finders.{MarksOf, Marked, marked_but}
-use Rattle.plain.specs.Loops.{through, any_through, reaches_through, closes, first_from}
+use Rattle.plain.specs.Loops.{through, any_through, reaches_through, closes}
 use Rattle.plain.proofs.Through.{any_front}
 use Rattle.plain.proofs.Reaching.{any_same, reaches_unfolds}
 
@@ -87,19 +87,23 @@ pub marks_close : (p : Rows) (d r : ℕ) (marked : List Bool) → MarksOf p d (w
 unfolding closes
 marks_close p d r marked m u low = ap (λ b. not (eqb u r) && b) (m.each u low)
 
--- ---- the first value that passes a test
+-- ---- the first value that passes a test is that of the first number
 
-pub first_value : (test : ℕ → Bool) (n v m : ℕ) → m ≡ v + n → (unwrap_or (find (λ (w : Value). test w.0) (map value (range_with_len v n))) (value m)).0 ≡ first_from test n v
-unfolding first_from
-first_value test zero v m e = omega (arith, e)
-first_value test (suc n) v m e =
-    let next : v + 1 ≡ suc v = omega arith in
-    let rest = first_value test n (v + 1) m (omega (arith, e)) in
-    elim (cases_Bool (test v)) [
+find_values : (test : ℕ → Bool) (xs : List ℕ) → find (λ (w : Value). test w.0) (map value xs) ≡ option_map value (find test xs)
+find_values test [] = refl
+find_values test (x ∷ xs) =
+    elim (cases_Bool (test x)) [
       | inl h ↦
-          ap (λ b. (unwrap_or (cond b (Some (value v)) (find (λ (w : Value). test w.0) (map value (range_with_len (v + 1) n)))) (value m)).0) h
-          ∙ sym (ap (λ b. cond b v (first_from test n (suc v))) h)
+          ap (λ b. cond b (Some (value x)) (find (λ (w : Value). test w.0) (map value xs))) h
+          ∙ sym (ap (λ b. option_map value (cond b (Some x) (find test xs))) h)
       | inr h ↦
-          ap (λ b. (unwrap_or (cond b (Some (value v)) (find (λ (w : Value). test w.0) (map value (range_with_len (v + 1) n)))) (value m)).0) h
-          ∙ rest ∙ ap (first_from test n) next ∙ sym (ap (λ b. cond b v (first_from test n (suc v))) h)
+          ap (λ b. cond b (Some (value x)) (find (λ (w : Value). test w.0) (map value xs))) h ∙ find_values test xs
+          ∙ sym (ap (λ b. option_map value (cond b (Some x) (find test xs))) h)
     ]
+
+number_of : (o : Option ℕ) (m : ℕ) → (unwrap_or (option_map value o) (value m)).0 ≡ unwrap_or o m
+number_of None m = refl
+number_of (Some x) m = refl
+
+pub first_value : (test : ℕ → Bool) (xs : List ℕ) (m : ℕ) → (unwrap_or (find (λ (w : Value). test w.0) (map value xs)) (value m)).0 ≡ unwrap_or (find test xs) m
+first_value test xs m = ap (λ o. (unwrap_or o (value m)).0) (find_values test xs) ∙ number_of (find test xs) m

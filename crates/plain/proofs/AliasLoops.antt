@@ -1,5 +1,6 @@
 -- A new alias is refused for a loop exactly if the altered graph would have one, at the lowest value in one. Assumes nothing.
-use Rattle.std.proofs.Common.{◌≡◌, ℕ, zero, suc, ◌+◌, ◌<◌, ◌≤◌, Bool, true, false, cond, not, eqb, ◌≢◌, ◌⊎◌, List, length, get_or, Some, None, count_by, sym, refl, ap, ◌∙◌, subst, inl, inr, arith}
+use Rattle.std.proofs.Common.{unwrap_or, find, ◌≡◌, ℕ, zero, suc, ◌+◌, ◌<◌, ◌≤◌, Bool, true, false, cond, not, eqb, ◌≢◌, ◌⊎◌, List, length, get_or, Some, None, count_by, sym, refl, ap, ◌∙◌, subst, inl, inr, arith}
+use Rattle.std.specs.List.{range_with_len}
 use Rattle.std.proofs.lemmas.Bool.{cases_Bool, and_parts, and_from, not-true, ne_eqb, eqb-false, eqb-true, or_cases, false≢true}
 use Rattle.ir.specs.declared.entities.Value.{Value}
 use Rattle.ir.specs.declared.refusal.Cause.TheVariants.{Loop}
@@ -17,7 +18,7 @@ use Rattle.calls.specs.Calls.{ChangeToAlias}
 use Rattle.plain.specs.AliasLoops.{InLoop, LowestInLoop, Judged}
 use Rattle.ir.specs.Refusals.{first, answer_unless}
 use Rattle.plain.specs.Feed.{checks, grown}
-use Rattle.plain.specs.Loops.{leads, through, reaches_through, closes, first_from, lowest_in_loop, loop_refusal}
+use Rattle.plain.specs.Loops.{leads, through, reaches_through, closes, lowest_in_loop, loop_refusal}
 use Rattle.plain.proofs.Accepted.{alias_accepted}
 use Rattle.plain.proofs.Kept.{alias_kept}
 use Rattle.plain.proofs.Loops.{Path, one, more, Loopless, Comes, reach_path, path_reach, looped, in_loop}
@@ -68,22 +69,21 @@ reach_to g v u s = let r = path_reach g s in further r.0 r.1 r.2
 abbrev Lowest : (ℕ → Bool) → ℕ → ℕ → Type 0
 Lowest test x v = (test x ≡ true) × ((w : ℕ) → v ≤ w → test w ≡ true → x ≤ w)
 
-lowest_next : (test : ℕ → Bool) (v x : ℕ) → test v ≡ false → Lowest test x (suc v) → Lowest test x v
+lowest_next : (test : ℕ → Bool) (v x : ℕ) → test v ≡ false → Lowest test x (v + 1) → Lowest test x v
 lowest_next test v x h s = (s.0, λ w le t. s.1 w (next w le (λ same. false≢true (sym h ∙ ap test (sym same) ∙ t))) t)
   where
-    next : (w : ℕ) → v ≤ w → w ≢ v → suc v ≤ w
+    next : (w : ℕ) → v ≤ w → w ≢ v → v + 1 ≤ w
     next w le ne = omega arith
 
-first_lowest : (test : ℕ → Bool) (n v u : ℕ) → v ≤ u → u < n + v → test u ≡ true → Lowest test (first_from test n v) v
-unfolding first_from
-first_lowest test zero v u le lt e = absurd (omega arith)
-first_lowest test (suc n) v u le lt e =
+find_lowest : (test : ℕ → Bool) (n v u d : ℕ) → v ≤ u → u < v + n → test u ≡ true → Lowest test (unwrap_or (find test (range_with_len v n)) d) v
+find_lowest test zero v u d le lt e = absurd (omega arith)
+find_lowest test (suc n) v u d le lt e =
     elim (cases_Bool (test v)) [
-      | inl h ↦ subst (λ b. Lowest test (cond b v (first_from test n (suc v))) v) (sym h) (h, λ w below t. below)
+      | inl h ↦ subst (λ b. Lowest test (unwrap_or (cond b (Some v) (find test (range_with_len (v + 1) n))) d) v) (sym h) (h, λ w below t. below)
       | inr h ↦
           let other : u ≢ v = λ same. false≢true (sym h ∙ ap test (sym same) ∙ e) in
-          subst (λ b. Lowest test (cond b v (first_from test n (suc v))) v) (sym h)
-          (lowest_next test v (first_from test n (suc v)) h (first_lowest test n (suc v) u (omega arith) (omega arith) e))
+          subst (λ b. Lowest test (unwrap_or (cond b (Some v) (find test (range_with_len (v + 1) n))) d) v) (sym h)
+          (lowest_next test v (unwrap_or (find test (range_with_len (v + 1) n)) d) h (find_lowest test n (v + 1) u d (omega arith) (omega arith) e))
     ]
 
 -- ---- the theorem
@@ -176,7 +176,7 @@ module _ (p : Rows) (marks : ℕ) (dest src : Value) (free : first (checks p mar
   unfolding lowest_in_loop
   lowest_closes e =
       let s = some_closes e in
-      let f = first_lowest (closes p dest.0 source) (length p.values) 0 s.0 (omega arith) (omega arith) s.2 in
+      let f = find_lowest (closes p dest.0 source) (length p.values) 0 s.0 (length p.values) (omega arith) (omega arith) s.2 in
       record { in_loop = closed _ f.0; lowest = λ u h. f.1 u (omega arith) (only_closed u h) }
 
   pub judged : Judged (flow altered) (answer_unless (loop_refusal p dest.0 source) tt)

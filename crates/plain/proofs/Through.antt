@@ -1,11 +1,12 @@
 -- Whether aliases lead through a value, and what the finders find. Assumes nothing.
-use Rattle.std.proofs.Common.{◌≡◌, ℕ, zero, suc, ◌+◌, ◌<◌, Bool, true, false, cond, ◌||◌, eqb, List, [], ◌∷◌, ◌++◌, get_or, count_by, sym, refl, ap, ◌∙◌, subst, inl, inr, arith}
+use Rattle.std.proofs.Common.{Some, find, ◌≡◌, ℕ, zero, suc, ◌+◌, ◌<◌, Bool, true, false, cond, ◌||◌, eqb, List, [], ◌∷◌, ◌++◌, get_or, count_by, sym, refl, ap, ◌∙◌, subst, inl, inr, arith}
+use Rattle.std.specs.List.{range_with_len}
 use Rattle.std.proofs.lemmas.Bool.{or_left, or_right, or_cases, or_parts, eq-eqb, ne_eqb, eqb-true, false≢true}
 use Rattle.flow.specs.Meaning.{has}
 use Rattle.rows.specs.Rows.{step_in, is_alias, follow}
 use Rattle.rows.specs.WellFormed.{Settled}
 use Rattle.rows.proofs.Aliases.{Ends, step_end}
-use Rattle.plain.specs.Loops.{leads, through, any_through, first_from}
+use Rattle.plain.specs.Loops.{leads, through, any_through}
 use Rattle.rows.specs.declared.value.ValueData.{ValueData}
 use Rattle.rows.specs.declared.value.ValueData.TheVariants.{Deleted}
 
@@ -55,9 +56,8 @@ none_through rows d (v ∷ vs) w e h =
 
 -- ---- the first number that passes a test, for two tests that agree
 
-pub first_same : (f h : ℕ → Bool) (n v : ℕ) → ((u : ℕ) → u < n + v → f u ≡ h u) → first_from f n v ≡ first_from h n v
-unfolding first_from
-first_same f h zero v same = refl
-first_same f h (suc n) v same =
-    ap (λ b. cond b v (first_from f n (suc v))) (same v (omega arith))
-    ∙ ap (λ x. cond (h v) v x) (first_same f h n (suc v) (λ u lt. same u (omega arith)))
+pub find_same : (f h : ℕ → Bool) (n v : ℕ) → ((u : ℕ) → u < v + n → f u ≡ h u) → find f (range_with_len v n) ≡ find h (range_with_len v n)
+find_same f h zero v same = refl
+find_same f h (suc n) v same =
+    ap (λ b. cond b (Some v) (find f (range_with_len (v + 1) n))) (same v (omega arith))
+    ∙ ap (λ o. cond (h v) (Some v) o) (find_same f h n (v + 1) (λ u lt. same u (omega arith)))

@@ -1,6 +1,7 @@
 -- The loops that a new alias would make. Assumes nothing.
 use Rattle.std.specs.Prelude.{ℕ, zero, suc, Bool, cond, not, ◌&&◌, ◌||◌, List, length, Some, None, count_by, Option, ◌==◌, slice_index_or}
-use Rattle.std.specs.List.{list_any}
+use Rattle.std.specs.List.{find, list_any, range_with_len}
+use Rattle.std.specs.Option.{unwrap_or}
 use Rattle.ir.specs.declared.refusal.Cause.TheVariants.{Loop}
 use Rattle.ir.specs.declared.refusal.Refusal.{Refusal}
 use Rattle.flow.specs.Meaning.{has}
@@ -31,14 +32,9 @@ reaches_through p d v = any_through p.values d (walk (flow p) v)
 unfoldable pub closes : Rows → ℕ → ℕ → ℕ → Bool
 closes p d r v = not (v == r) && (has (walk (flow p) r) v && reaches_through p d v)
 
--- the first of n numbers from v on that passes the test, or the number behind them
-unfoldable pub first_from : (ℕ → Bool) → ℕ → ℕ → ℕ
-first_from test zero v = v
-first_from test (suc n) v = cond (test v) v (first_from test n (suc v))
-
--- the lowest value that would be in a loop, were d another name for r
+-- the lowest value that would be in a loop, were d another name for r, or the number behind the last value
 unfoldable pub lowest_in_loop : Rows → ℕ → ℕ → ℕ
-lowest_in_loop p d r = first_from (closes p d r) (length p.values) 0
+lowest_in_loop p d r = unwrap_or (find (closes p d r) (range_with_len 0 (length p.values))) (length p.values)
 
 -- why d cannot become another name for r
 abbrev pub loop_refusal : Rows → ℕ → ℕ → Option Refusal
