@@ -6,18 +6,8 @@ ghost use Rattle.plain.specs.Loops.{through};
 ghost use Rattle.dfg.specs.Held.{held};
 
 use crate::tables::Tables;
-use ir::{Block, Inst, IntCC, Opcode, Operands, Value};
-use rows::{InstructionData, ReadRows, Results, ValueData};
-
-/// What stands where there is no instruction.
-const NO_INST: InstructionData = InstructionData {
-    opcode: Opcode::Opaque,
-    cond: IntCC::Equal,
-    imm: 0,
-    args: Operands::Nullary,
-    results: Results::Empty,
-    block: Block(0),
-};
+use ir::{Inst, Value};
+use rows::{InstructionData, ReadRows, ValueData};
 
 impl ReadRows for Tables {
     ghost rows = { held };
@@ -30,7 +20,10 @@ impl ReadRows for Tables {
     }
 
     fn inst_data(&self, inst: Inst) -> InstructionData {
-        self.insts.get(inst.0 as usize).copied().unwrap_or(NO_INST)
+        self.insts
+            .get(inst.0 as usize)
+            .copied()
+            .unwrap_or(InstructionData::MISSING)
     }
 }
 

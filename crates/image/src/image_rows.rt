@@ -1,9 +1,9 @@
 ghost use Rattle.std.specs.Prelude.{◌≤◌};
 ghost use Rattle.image.specs.Held.{rows_in};
 
-use ir::{Block, Inst, IntCC, Opcode, Operands, Value};
+use ir::{Inst, Value};
 use records::{Counts, Record};
-use rows::{InstructionData, ReadRows, Results, ValueData};
+use rows::{InstructionData, ReadRows, ValueData};
 
 /// The rows in the records of an image: value records first, then instruction records, so many of each.
 #[derive(Clone, Copy, PartialEq, Eq, Debug)]
@@ -13,16 +13,6 @@ pub struct ImageRows<'a> {
     ghost few_values: { counts.values ≤ 1024 },
     ghost few_insts: { counts.insts ≤ 1024 },
 }
-
-/// What stands where there is no instruction.
-const NO_INST: InstructionData = InstructionData {
-    opcode: Opcode::Opaque,
-    cond: IntCC::Equal,
-    imm: 0,
-    args: Operands::Nullary,
-    results: Results::Empty,
-    block: Block(0),
-};
 
 impl ReadRows for ImageRows<'_> {
     ghost rows = { λ image. rows_in image.bytes.now image.counts };
@@ -38,7 +28,7 @@ impl ReadRows for ImageRows<'_> {
     #[tactic(auto, using(crate::proofs::Held::inst_in, crate::proofs::Held::inst_past))]
     fn inst_data(&self, inst: Inst) -> InstructionData {
         if inst.0 >= self.counts.insts {
-            return NO_INST;
+            return InstructionData::MISSING;
         }
         Record::of(self.bytes, self.counts.values as usize + inst.0 as usize)
             .inst()
