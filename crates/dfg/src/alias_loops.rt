@@ -1,21 +1,19 @@
 // Whether a new alias would make a loop.
-ghost use Rattle.std.specs.Prelude.{◌≡◌, ◌≤◌, true, length};
+ghost use Rattle.std.specs.Prelude.{◌≡◌, true, replicate};
 ghost use Rattle.ir.specs.Refusals.{answer_unless};
 ghost use Rattle.flow.specs.Meaning.{live};
 ghost use Rattle.flow.specs.Walk.{walk};
 ghost use Rattle.rows.specs.Meaning.{flow as flow_of};
 ghost use Rattle.dfg.specs.Plain.{plain};
-ghost use Rattle.plain.specs.Marks.{swept};
 ghost use Rattle.plain.specs.Loops.{through, reaches_through, lowest_in_loop, loop_refusal};
 
 use crate::dfg::DataFlowGraph;
 use crate::finders::{AliasFinder, LoopMarker, lowest_marked};
 use flow::FlowGraph;
 use ir::{Cause, Refusal, Value};
-use walk::post_order_dfs;
+use walk::{MARKS, post_order_dfs};
 
 /// A new alias to be judged: `dest`, as another name for a live `original`.
-// The marks of its walks are no field: a struct that holds a `&mut` could not be copied into the visitors.
 #[derive(Clone, Copy, Debug)]
 pub(crate) struct NewAlias<'a> {
     pub graph: &'a DataFlowGraph,
@@ -35,24 +33,22 @@ impl NewAlias<'_> {
     }
 
     /// Whether the original reaches a value whose aliases lead through `dest`.
-    fn makes_loop(&self, marks: &mut [u8]) -> bool
-        requires { 1024 ≤ length marks.old }
+    fn makes_loop(&self, marks: &mut [u8; MARKS]) -> bool
         ensures found { result ≡ reaches_through (plain self.now.graph.now) self.now.dest.0 self.now.original.0 }
-        ensures marks { marks.new ≡ swept marks.old }
+        ensures marks { marks.new ≡ replicate 1024 0 }
     {
         let mut finder = AliasFinder { alias: *self };
         post_order_dfs(self.graph, self.original, marks, &mut finder).is_err()
     }
 
     /// By value number, whether the original reaches the value and the value reaches one whose aliases lead through `dest`.
-    fn mark_reaching(&self, marks: &mut [u8]) -> [bool; 1024]
-        requires { 1024 ≤ length marks.old }
+    fn mark_reaching(&self, marks: &mut [u8; MARKS]) -> [bool; MARKS]
         ensures marked { MarksOf (plain self.now.graph.now) self.now.dest.0 (walk (flow_of (plain self.now.graph.now)) self.now.original.0) result }
-        ensures marks { marks.new ≡ swept marks.old }
+        ensures marks { marks.new ≡ replicate 1024 0 }
     {
         let mut marker = LoopMarker {
             alias: *self,
-            marked: [false; 1024],
+            marked: [false; MARKS],
         };
         let Ok(_) = post_order_dfs(self.graph, self.original, marks, &mut marker) else {
             unreachable!()
@@ -61,10 +57,9 @@ impl NewAlias<'_> {
     }
 
     /// The lowest value that would be in a loop, or the one behind the last.
-    fn lowest_in_loop(&self, marks: &mut [u8]) -> Value
-        requires { 1024 ≤ length marks.old }
+    fn lowest_in_loop(&self, marks: &mut [u8; MARKS]) -> Value
         ensures lowest { result.0 ≡ lowest_in_loop (plain self.now.graph.now) self.now.dest.0 self.now.original.0 }
-        ensures marks { marks.new ≡ swept marks.old }
+        ensures marks { marks.new ≡ replicate 1024 0 }
     {
         let marked = self.mark_reaching(marks);
         let count = self.graph.num_values();
@@ -72,10 +67,9 @@ impl NewAlias<'_> {
     }
 
     /// Refuses the alias if some value would be in a loop.
-    pub(crate) fn check_loops(&self, marks: &mut [u8]) -> Result<(), Refusal>
-        requires { 1024 ≤ length marks.old }
+    pub(crate) fn check_loops(&self, marks: &mut [u8; MARKS]) -> Result<(), Refusal>
         ensures answer { result ≡ answer_unless (loop_refusal (plain self.now.graph.now) self.now.dest.0 self.now.original.0) tt }
-        ensures marks { marks.new ≡ swept marks.old }
+        ensures marks { marks.new ≡ replicate 1024 0 }
     {
         if !self.makes_loop(marks) {
             return Ok(());

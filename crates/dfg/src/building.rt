@@ -92,6 +92,9 @@ impl DataFlowGraph {
             dest,
             original,
         };
+        let Some(marks) = marks.first_chunk_mut() else {
+            unreachable!()
+        };
         alias.check_loops(marks)?;
         self.tables.set_alias(dest, original);
         Ok(())

@@ -12,7 +12,7 @@ use crate::alias_loops::NewAlias;
 use flow::value_args;
 use ir::{Operands, Value};
 use std::convert::Infallible;
-use walk::Visitor;
+use walk::{MARKS, Visitor};
 
 /// A value was found whose aliases lead through the destination.
 #[derive(Clone, Copy, PartialEq, Eq, Debug)]
@@ -84,7 +84,7 @@ pub(crate) struct LoopMarker<'a> {
     pub alias: NewAlias<'a>,
     /// By value number.
     // An array of fixed length: a building call allocates nothing.
-    pub marked: [bool; 1024],
+    pub marked: [bool; MARKS],
 }
 
 impl LoopMarker<'_> {

@@ -1,11 +1,7 @@
--- Marks that a walk has cleared stay as they are over another walk. Assumes nothing.
-use Rattle.std.proofs.Common.{◌≡◌, ℕ, ◌≤◌, List, ◌++◌, length, drop, replicate, ap, arith}
-use Rattle.std.proofs.lemmas.List.{length-append, length-drop, length-replicate}
-use Rattle.std.proofs.lemmas.Slice.{drop-append-drop}
+-- What a walk leaves in marks of just the length that it needs. Assumes nothing.
+use Rattle.std.proofs.Common.{◌≡◌, ℕ, List, ◌++◌, length, replicate, append-nil, ap, ◌∙◌, arith}
+use Rattle.std.proofs.Math.ListN.{drop_of_length-le}
 use Rattle.plain.specs.Marks.{swept}
 
-pub swept_again : (marks : List ℕ) → swept (swept marks) ≡ swept marks
-swept_again marks = ap (λ rest. replicate 1024 0 ++ rest) (drop-append-drop 1024 marks (replicate 1024 0) 1024 (omega arith) (length-replicate {A = ℕ} 1024 0))
-
-pub swept_room : (marks : List ℕ) → 1024 ≤ length marks → 1024 ≤ length (swept marks)
-swept_room marks room = omega (arith, length-append (replicate 1024 0) (drop 1024 marks), length-drop 1024 marks, length-replicate {A = ℕ} 1024 0)
+pub swept_whole : (marks : List ℕ) → length marks ≡ 1024 → swept marks ≡ replicate 1024 0
+swept_whole marks whole = ap (λ rest. replicate 1024 0 ++ rest) (drop_of_length-le marks {i = 1024} (omega arith)) ∙ append-nil (replicate 1024 0)

@@ -1,14 +1,9 @@
-use Rattle.std.proofs.Common.{◌≤◌, cond, length, Err, Some, None, sym, ap, ◌∙◌, subst}
+use Rattle.std.proofs.Common.{cond, Err, Some, None, ap, ◌∙◌}
 use Rattle.ir.specs.Refusals.{answer_unless}
 use Rattle.ir.specs.declared.refusal.Cause.TheVariants.{Loop}
 use Rattle.dfg.specs.Plain.{plain}
-use Rattle.plain.specs.Marks.{swept}
 use Rattle.plain.specs.Loops.{lowest_in_loop}
-use Rattle.plain.proofs.Sweeping.{swept_again, swept_room}
 use Rattle.dfg.proofs.alias_loops.NewAlias.check_loops.Goals as goal
-
-pub lowest_in_loop-lowest-requires : goal.lowest_in_loop-lowest-requires
-lowest_in_loop-lowest-requires c = subst (λ m. 1024 ≤ length m) (sym c.makes_loop.ensures.marks) (swept_room c.args.marks.now c.requires)
 
 pub returns : goal.returns
 returns c =
@@ -18,5 +13,5 @@ returns c =
       answer =
           ap (λ k. Err (record { cause = Loop; place = k })) c.lowest_in_loop-lowest.ensures.lowest
           ∙ ap (λ b. answer_unless (cond b (Some (record { cause = Loop; place = lowest_in_loop p a.dest.0 a.original.0 })) None) (tt {0})) c.if-not-makes_loop.ensures.found;
-      marks = c.lowest_in_loop-lowest.ensures.marks ∙ ap swept c.makes_loop.ensures.marks ∙ swept_again c.args.marks.now;
+      marks = c.lowest_in_loop-lowest.ensures.marks;
     }

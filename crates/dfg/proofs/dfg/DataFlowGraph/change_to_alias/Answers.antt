@@ -1,4 +1,4 @@
-use Rattle.std.proofs.Common.{◌≡◌, ℕ, true, false, ltb, length, Ok, Some, None, Option, set, sym, ap, ◌∙◌, subst}
+use Rattle.std.proofs.Common.{◌≡◌, ℕ, true, false, ltb, ◌++◌, length, drop, Ok, Some, None, Option, set, sym, ap, ◌∙◌, subst}
 use Rattle.ir.specs.Entities.{value}
 use Rattle.ir.specs.Refusals.{first, or_else, answer_unless}
 use Rattle.ir.specs.declared.entities.Value.{Value}
@@ -84,7 +84,7 @@ returns-in_err-check_loops c =
     record {
       after = done.0;
       value = exit ∙ done.1;
-      marks = c.check_loops.ensures.marks ∙ sym (ap (λ o. swept_unless o c.args.marks.now) (free p m _ _ _ e));
+      marks = ap (λ l. l ++ drop 1024 c.args.marks.now) c.check_loops.ensures.marks ∙ sym (ap (λ o. swept_unless o c.args.marks.now) (free p m _ _ _ e));
       loops = λ passed.
           subst (Judged (flow (grown p call))) (ap (λ o. answer_unless o (tt {0})) (loops p m _ _ _ e why) ∙ sym exit)
           (judged p m c.args.dest c.args.src passed g.well_formed);
@@ -129,7 +129,7 @@ returns c =
     record {
       after = c.set_alias.ensures ∙ after p m _ _ _ e ∙ done.0;
       value = done.1;
-      marks = c.check_loops.ensures.marks ∙ sym (ap (λ o. swept_unless o c.args.marks.now) (free p m _ _ _ e));
+      marks = ap (λ l. l ++ drop 1024 c.args.marks.now) c.check_loops.ensures.marks ∙ sym (ap (λ o. swept_unless o c.args.marks.now) (free p m _ _ _ e));
       loops = λ passed.
           subst (Judged (flow (grown p call))) (ap (λ o. answer_unless o (tt {0})) (loops p m _ _ _ e none))
           (judged p m c.args.dest c.args.src passed g.well_formed);
