@@ -4,6 +4,7 @@ use Rattle.std.specs.List.{range_with_len}
 use Rattle.std.proofs.lemmas.Bool.{cases_Bool, and_parts, and_from, not-true, ne_eqb, eqb-false, eqb-true, or_cases, false≢true}
 use Rattle.ir.specs.declared.entities.Value.{Value}
 use Rattle.ir.specs.declared.refusal.Cause.TheVariants.{Loop}
+use Rattle.flow.specs.Loops.{InLoop, LowestInLoop}
 use Rattle.flow.specs.Meaning.{Flow, Lawful, Reach, here, through as further, used, uses, live}
 use Rattle.flow.proofs.Paths.{live_exists}
 use Rattle.flow.proofs.Walks.{walk_is_post_order}
@@ -15,7 +16,7 @@ use Rattle.rows.proofs.Lawfulness.{lawful, length_flow}
 use Rattle.rows.specs.declared.value.ValueData.{ValueData}
 use Rattle.rows.specs.declared.value.ValueData.TheVariants.{Deleted}
 use Rattle.calls.specs.Calls.{ChangeToAlias}
-use Rattle.plain.specs.AliasLoops.{InLoop, LowestInLoop, Judged}
+use Rattle.plain.specs.AliasLoops.{Judged}
 use Rattle.ir.specs.Refusals.{first, answer_unless}
 use Rattle.plain.specs.Feed.{checks, grown}
 use Rattle.plain.specs.Loops.{leads, through, reaches_through, closes, lowest_in_loop, loop_refusal}

@@ -1,22 +1,15 @@
 -- When a new alias is refused for a loop: exactly if the altered graph would have one. Assumes nothing.
-use Rattle.std.specs.Prelude.{◌≡◌, ℕ, ◌≤◌, true, None, Ok, Err, Result}
+use Rattle.std.specs.Prelude.{◌≡◌, ℕ, None, Ok, Err, Result}
 use Rattle.ir.specs.Codes.{cause_number}
 use Rattle.ir.specs.declared.entities.Value.{Value}
 use Rattle.ir.specs.declared.refusal.Refusal.{Refusal}
-use Rattle.flow.specs.Meaning.{Flow, Reach, NoLoop, uses, has}
+use Rattle.flow.specs.Loops.{LowestInLoop}
+use Rattle.flow.specs.Meaning.{Flow, NoLoop}
 use Rattle.rows.specs.Meaning.{flow}
 use Rattle.rows.specs.Rows.{Rows}
 use Rattle.calls.specs.Calls.{ChangeToAlias}
 use Rattle.ir.specs.Refusals.{first}
 use Rattle.plain.specs.Feed.{checks, grown}
-
--- a value is in a loop if it uses a value that reaches it
-abbrev pub InLoop : Flow → ℕ → Type 0
-InLoop g v = (w : ℕ) × (has (uses g v) w ≡ true) × Reach g w v
-
-pub record LowestInLoop (g : Flow) (v : ℕ) : Type 0 where
-  pub in_loop : InLoop g v
-  pub lowest : (u : ℕ) → InLoop g u → v ≤ u
 
 -- the answer of a call that would alter the graph: it is altered if there is then no loop,
 -- and else refused with 9, at the lowest value that would be in one
