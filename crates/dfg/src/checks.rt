@@ -11,7 +11,7 @@ ghost use Rattle.dfg.specs.Held.{held};
 use crate::decode::{first_type, results_from, types_known};
 use crate::tables::Tables;
 use calls::NewInst;
-use ir::{Cause, IntCC, Opcode, Operands, Refusal, Value};
+use ir::{Cause, IntCC, Opcode, Operands, Refusal, Value, ensure};
 use rows::{InstructionData, ReadRows};
 
 /// Whether an instruction of the opcode may have so many operands and results.
@@ -34,20 +34,16 @@ impl Tables {
     fn check_row(&self, row: InstructionData, types: &[u16]) -> Result<(), Refusal>
         ensures { result ≡ answer_unless (first (row_checks (held self.now) row types.now)) tt }
     {
-        if self.blocks <= row.block.0 || !self.are_live(row.args) {
-            return Err(Cause::NotLive.into());
-        }
         let constraints = row.opcode.constraints();
         let ty = first_type(types);
-        if !constraints.widths_fit(ty.bits(), self.arg_widths(row.args)) {
-            return Err(Cause::Widths.into());
-        }
-        if !constraints.immediate_fits(ty, row.imm) {
-            return Err(Cause::Immediate.into());
-        }
-        if self.is_full(types.len()) {
-            return Err(Cause::TableFull.into());
-        }
+        let widths = self.arg_widths(row.args);
+        ensure(
+            row.block.0 < self.blocks && self.are_live(row.args),
+            Cause::NotLive,
+        )?;
+        ensure(constraints.widths_fit(ty.bits(), widths), Cause::Widths)?;
+        ensure(constraints.immediate_fits(ty, row.imm), Cause::Immediate)?;
+        ensure(!self.is_full(types.len()), Cause::TableFull)?;
         Ok(())
     }
 
@@ -85,19 +81,14 @@ impl Tables {
     ) -> Result<Value, Refusal>
         ensures { result ≡ answer_unless (first (checks (held self.now) marks (ChangeToAlias dest src))) (value (original (held self.now) src.0)) }
     {
-        if !(self.is_live(dest) && self.is_live(src)) {
-            return Err(Cause::NotLive.into());
-        }
-        if self.value_width(dest) != self.value_width(src) {
-            return Err(Cause::Widths.into());
-        }
-        if self.is_attached(dest) {
-            return Err(Cause::Attached.into());
-        }
         let original = self.resolve_aliases(src);
-        if original == dest {
-            return Err(Cause::ResolvesToDestination.into());
-        }
+        ensure(self.is_live(dest) && self.is_live(src), Cause::NotLive)?;
+        ensure(
+            self.value_width(dest) == self.value_width(src),
+            Cause::Widths,
+        )?;
+        ensure(!self.is_attached(dest), Cause::Attached)?;
+        ensure(original != dest, Cause::ResolvesToDestination)?;
         if marks < 1024 {
             return Err(Refusal {
                 cause: Cause::TooShort,

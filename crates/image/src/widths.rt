@@ -1,14 +1,12 @@
 // The second stage of the check: the widths and immediates of rows.
 ghost use Rattle.std.specs.Prelude.{◌≡◌};
 ghost use Rattle.ir.specs.Codes.{type_bits};
-ghost use Rattle.ir.specs.Refusals.{answer_unless};
-ghost use Rattle.records.specs.Faults.{checked};
+ghost use Rattle.ir.specs.Refusals.{answer_unless, checked};
 ghost use Rattle.image.specs.Held.{rows_in};
 ghost use Rattle.image.specs.Verdict.{result_fault, row_fault, row_fault_in, widths_refusal};
 
 use crate::image_rows::ImageRows;
-use ir::{Cause, Inst, Refusal, Type, Value};
-use records::ensure;
+use ir::{Cause, Inst, Refusal, Type, Value, ensure};
 use rows::{ReadRows, ValueData};
 
 impl ImageRows<'_> {

@@ -17,6 +17,11 @@ abbrev pub or_else : {A : Type 0} → Option A → Option A → Option A
 or_else (Some why) rest = Some why
 or_else None rest = rest
 
+-- the answer of checks, of which this is the first that stands, if one does
+abbrev pub checked : Option Cause → Result (Unit {0}) Cause
+checked None = Ok tt
+checked (Some why) = Err why
+
 -- the answer x, unless it is refused
 abbrev pub answer_unless : {A : Type 0} → Option Refusal → A → Result A Refusal
 answer_unless None x = Ok x

@@ -19,6 +19,6 @@ pub use constraints::{OpcodeConstraints, constraints_stand};
 pub use entities::{Block, Inst, Value};
 pub use instructions::{Args, Operands};
 pub use opcodes::Opcode;
-pub use refusal::{Cause, Refusal};
+pub use refusal::{Cause, Refusal, ensure};
 pub use types::Type;
 pub use words::Word;

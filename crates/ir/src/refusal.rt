@@ -1,7 +1,7 @@
-ghost use Rattle.std.specs.Prelude.{◌≡◌, Some};
+ghost use Rattle.std.specs.Prelude.{◌≡◌, not, [], ◌∷◌, Some};
 ghost use Rattle.ir.specs.Codes.{cause_number, cause_meaning};
 ghost use Rattle.ir.specs.Printed.{refusal_text};
-ghost use Rattle.ir.specs.Refusals.{because};
+ghost use Rattle.ir.specs.Refusals.{because, checked, first};
 
 use std::error::Error;
 use std::fmt;
@@ -126,6 +126,7 @@ impl fmt::Display for Cause {
 impl Error for Cause {}
 
 /// Why a call was refused, and the place that this speaks of, 0 where it speaks of none.
+// A number and not an option: a caller is given both numbers, whatever the cause.
 #[derive(Clone, Copy, PartialEq, Eq, Debug)]
 pub struct Refusal {
     pub cause: Cause,
@@ -152,3 +153,10 @@ impl fmt::Display for Refusal {
 }
 
 impl Error for Refusal {}
+
+/// One check: passed where something holds, and refused where it does not.
+pub fn ensure(holds: bool, cause: Cause) -> Result<(), Cause>
+    ensures { result ≡ checked (first ((not holds, cause) ∷ [])) }
+{
+    if holds { Ok(()) } else { Err(cause) }
+}

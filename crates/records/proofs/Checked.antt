@@ -3,7 +3,7 @@ use Rattle.std.proofs.Common.{◌≡◌, ℕ, Some, None, Ok, Err, Option, Resul
 use Rattle.std.specs.Result.{IsErrAnd}
 use Rattle.ir.specs.declared.refusal.Cause.{Cause}
 use Rattle.ir.specs.declared.refusal.Refusal.{Refusal}
-use Rattle.records.specs.Faults.{checked}
+use Rattle.ir.specs.Refusals.{checked}
 
 checked_ok : (o : Option Cause) (x : Unit {0}) → Ok x ≡ checked o → o ≡ None
 checked_ok None x e = refl

@@ -1,5 +1,5 @@
 -- What is refused of records: the checks of each record in their order, and the first record at which one stands. Assumes nothing.
-use Rattle.std.specs.Prelude.{ℕ, ◌%◌, Bool, true, false, cond, not, ◌&&◌, ◌||◌, List, [], ◌∷◌, map, length, is_some, Some, None, Ok, Err, Option, Result, ◌==◌, nat_le, nat_lt, slice_index, slice_index_or}
+use Rattle.std.specs.Prelude.{ℕ, ◌%◌, Bool, true, false, cond, not, ◌&&◌, ◌||◌, List, [], ◌∷◌, map, length, is_some, Some, None, Option, ◌==◌, nat_le, nat_lt, slice_index, slice_index_or}
 use Rattle.std.specs.Option.{option_map}
 use Rattle.ir.specs.Codes.{opcode_at, intcc_at, type_at}
 use Rattle.ir.specs.Constraints.{constraints_of, arg_count_fits}
@@ -188,11 +188,6 @@ inst_checks bs k i =
     ∷ []
 
 -- ---- all records
-
--- the answer of checks of which this is the first that stands, if one does
-abbrev pub checked : Option Cause → Result (Unit {0}) Cause
-checked None = Ok tt
-checked (Some why) = Err why
 
 -- what stands against a record, by its kind
 abbrev pub fault_by : List ℕ → ℕ → Kind → Option Cause

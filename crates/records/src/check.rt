@@ -1,23 +1,16 @@
-ghost use Rattle.std.specs.Prelude.{◌≡◌, not, [], ◌∷◌};
-ghost use Rattle.ir.specs.Refusals.{answer_unless, first, first_fault};
-ghost use Rattle.records.specs.Faults.{checked, records_refusal, record_fault, counts_of};
+ghost use Rattle.std.specs.Prelude.{◌≡◌};
+ghost use Rattle.ir.specs.Refusals.{answer_unless, first_fault};
+ghost use Rattle.records.specs.Faults.{records_refusal, record_fault, counts_of};
 ghost use Rattle.records.specs.Fields.{record_count};
 
 use crate::numbered::Numbered;
-use ir::{Cause, Refusal};
+use ir::Refusal;
 
 /// How many records of each kind an image has.
 #[derive(Clone, Copy, PartialEq, Eq, Debug)]
 pub struct Counts {
     pub values: u32,
     pub insts: u32,
-}
-
-/// One check: passed where something holds, and refused where it does not.
-pub fn ensure(holds: bool, cause: Cause) -> Result<(), Cause>
-    ensures { result ≡ checked (first ((not holds, cause) ∷ [])) }
-{
-    if holds { Ok(()) } else { Err(cause) }
 }
 
 /// Looks at each record in order, and names the first that something stands against.

@@ -1,15 +1,14 @@
 // What stands against a record.
 ghost use Rattle.std.specs.Prelude.{◌≡◌};
-ghost use Rattle.ir.specs.Refusals.{first};
-ghost use Rattle.records.specs.Faults.{args_live, behind_inst, checked, inst_checks, inst_shape, is_instruction, names_live, names_record, number_fits, record_fault, results_named, value_checks, value_shape};
+ghost use Rattle.ir.specs.Refusals.{checked, first};
+ghost use Rattle.records.specs.Faults.{args_live, behind_inst, inst_checks, inst_shape, is_instruction, names_live, names_record, number_fits, record_fault, results_named, value_checks, value_shape};
 ghost use Rattle.records.specs.Fields.{record_at};
 
-use crate::check::ensure;
 use crate::inst_record::InstRecord;
 use crate::numbered::Numbered;
 use crate::record::{Kind, Record};
 use crate::value_record::ValueRecord;
-use ir::{Cause, OpcodeConstraints};
+use ir::{Cause, OpcodeConstraints, ensure};
 
 /// A record to be judged, by its number, in its image.
 #[derive(Clone, Copy)]

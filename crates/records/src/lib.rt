@@ -13,7 +13,7 @@ mod numbered;
 pub mod record;
 pub mod value_record;
 
-pub use check::{Counts, check_records, ensure};
+pub use check::{Counts, check_records};
 pub use inst_record::InstRecord;
 pub use laws::records_stand;
 pub use record::{Kind, Record};
