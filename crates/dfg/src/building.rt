@@ -11,7 +11,7 @@ use crate::alias_loops::NewAlias;
 use crate::dfg::DataFlowGraph;
 use crate::tables::Tables;
 use calls::NewInst;
-use ir::{Block, Cause, Inst, Refusal, Type, Value};
+use ir::{Block, Cause, Inst, Refusal, Type, Value, ensure};
 use std::alloc::{AllocError, Global};
 
 impl DataFlowGraph {
@@ -29,9 +29,7 @@ impl DataFlowGraph {
         ensures after { plain self.new ≡ fed (plain self.old) MakeBlock }
         ensures value { result ≡ answered 1024 (plain self.old) MakeBlock (next_block (plain self.old)) }
     {
-        if self.tables.blocks >= 64 {
-            return Err(Cause::TableFull.into());
-        }
+        ensure(self.tables.blocks < 64, Cause::TableFull)?;
         Ok(self.tables.push_block())
     }
 
@@ -42,12 +40,8 @@ impl DataFlowGraph {
     {
         // The bits are a number, as the caller gave them: one that no type has is refused here.
         let ty = Type::try_from(ty)?;
-        if self.tables.blocks <= block.0 {
-            return Err(Cause::NotLive.into());
-        }
-        if self.tables.values.len() >= 1024 {
-            return Err(Cause::TableFull.into());
-        }
+        ensure(block.0 < self.tables.blocks, Cause::NotLive)?;
+        ensure(self.tables.values.len() < 1024, Cause::TableFull)?;
         Ok(self.tables.push_param(block, ty))
     }
 
@@ -65,9 +59,7 @@ impl DataFlowGraph {
         ensures after { plain self.new ≡ fed (plain self.old) (ClearResults inst) }
         ensures value { result ≡ answered 1024 (plain self.old) (ClearResults inst) tt }
     {
-        if self.tables.insts.len() <= inst.0 as usize {
-            return Err(Cause::NotLive.into());
-        }
+        ensure((inst.0 as usize) < self.tables.insts.len(), Cause::NotLive)?;
         self.tables.clear(inst);
         Ok(())
     }

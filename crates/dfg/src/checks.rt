@@ -53,12 +53,8 @@ impl Tables {
     {
         let opcode = Opcode::try_from(new.opcode)?;
         let cond = IntCC::try_from(new.cond)?;
-        if !types_known(&new.types) {
-            return Err(Cause::Unknown.into());
-        }
-        if !counts_fit(opcode, new) {
-            return Err(Cause::WrongCount.into());
-        }
+        ensure(types_known(&new.types), Cause::Unknown)?;
+        ensure(counts_fit(opcode, new), Cause::WrongCount)?;
         let row = InstructionData {
             opcode,
             cond,
