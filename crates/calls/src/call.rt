@@ -1,6 +1,7 @@
 use ir::{Block, Inst, Value};
 
-// Opcodes, conditions and types are numbers here, and counts are free: the graph refuses a wrong one, so a call must be able to ask it.
+// Opcodes, conditions and types are numbers here, and counts are free: the graph refuses wrong ones, so a call has to be
+// able to say them.
 
 /// An instruction to append to a block.
 #[derive(PartialEq, Eq, Debug, Drop)]

@@ -142,7 +142,7 @@ impl Tables {
     fn resolved(&self, args: Operands) -> Operands
         ensures { result ≡ map_args (original (held self.now)) args }
     {
-        // Case by case: an iterator gives operands one by one, and none makes `Operands` of what it gives.
+        // Case by case: `Operands::map` would ask that its closure may be called, and no public call here asks anything.
         match args {
             Operands::Nullary => Operands::Nullary,
             Operands::Unary(a) => Operands::Unary(self.resolve_aliases(a)),
@@ -173,7 +173,7 @@ impl Tables {
     fn resolve_operands(&mut self)
         ensures { held self.new ≡ record (held self.old) { insts = map (rewritten (original (held self.old))) self.old.insts.items } }
     {
-        // By number: each row is lent through the tables, which are asked for the originals meanwhile.
+        // By number: each row is lent through `&mut self` for its rewrite, and the tables are asked for the originals meanwhile.
         for i in 0..self.insts.len() as u32 {
             self.resolve_inst(Inst(i));
         }

@@ -10,7 +10,7 @@ use ir::{Cause, Inst, Refusal, Type, Value, ensure};
 use rows::{ReadRows, ValueData};
 
 impl ImageRows<'_> {
-    /// What stands against a result of this type of the instruction.
+    /// Refuses a result of this type that does not go with the instruction.
     fn check_result(self, inst: Inst, ty: Type) -> Result<(), Cause>
         ensures { result ≡ checked (result_fault (rows_in self.entry.bytes.now self.entry.counts) inst.0 (type_bits ty)) }
     {
@@ -21,7 +21,7 @@ impl ImageRows<'_> {
         ensure(asked.immediate_fits(ty, row.imm), Cause::Immediate)
     }
 
-    /// What stands against the widths of a row.
+    /// Refuses a row whose widths do not go with what it names.
     fn check_row(self, row: ValueData) -> Result<(), Cause>
         ensures { result ≡ checked (row_fault_in (rows_in self.entry.bytes.now self.entry.counts) row) }
     {
@@ -35,7 +35,7 @@ impl ImageRows<'_> {
         }
     }
 
-    /// What stands against the widths of a value.
+    /// Refuses a value by its row.
     #[tactic(auto, unfolding(crate::specs::Verdict::row_fault))]
     fn check_value(self, v: Value) -> Result<(), Cause>
         ensures { result ≡ checked (row_fault (rows_in self.entry.bytes.now self.entry.counts) v.0) }

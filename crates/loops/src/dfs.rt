@@ -32,6 +32,7 @@ pub(crate) fn search<G: Digraph>(graph: &G) -> [State; NODES] {
 }
 
 /// A depth-first search of a graph, which ranks each node as it is finished, so after what it leads to.
+// The graph may be of any type, so a search is neither compared nor printed.
 #[derive(Drop)]
 struct Dfs<'a, G> {
     graph: &'a G,

@@ -9,7 +9,7 @@ use ir::{Operands, Value};
 use std::marker::Model;
 
 /// The nodes that a search has met, each once, in the order in which it met them.
-#[derive(Drop)]
+#[derive(Debug, Drop)]
 pub(crate) struct Met {
     /// Whether each node was met.
     marks: [bool; NODES],

@@ -13,7 +13,7 @@ pub struct Counts {
     pub insts: u32,
 }
 
-/// Looks at each record in order, and names the first that something stands against.
+/// Looks at each record in order, and names the first that is refused.
 fn check_each(image: &Numbered) -> Result<(), Refusal>
     ensures { result ≡ answer_unless (first_fault (record_fault image.now.bytes.now) 0 (record_count image.now.bytes.now)) tt }
 {

@@ -1,4 +1,4 @@
-// What stands against a record.
+// Why a record is refused.
 ghost use Rattle.std.specs.Prelude.{◌≡◌};
 ghost use Rattle.ir.specs.Refusals.{checked, first};
 ghost use Rattle.records.specs.Faults.{args_live, behind_inst, inst_checks, inst_shape, is_instruction, names_live, names_record, number_fits, record_fault, results_named, value_checks, value_shape};
@@ -11,7 +11,7 @@ use crate::value_record::ValueRecord;
 use ir::{Cause, OpcodeConstraints, ensure};
 
 /// A record to be judged, by its number, in its image.
-#[derive(Clone, Copy)]
+#[derive(Clone, Copy, Debug)]
 pub(crate) struct Judged<'a> {
     image: &'a Numbered<'a>,
     number: usize,
@@ -53,7 +53,7 @@ impl Judged<'_> {
             && value.fields_fit()
     }
 
-    /// What stands against it as a value's record.
+    /// Refuses it as a value's record.
     fn check_value(self, value: ValueRecord) -> Result<(), Cause>
         ensures { result ≡ checked (first (value_checks self.entry.image.now.bytes.now self.entry.number value)) }
     {
@@ -96,7 +96,7 @@ impl Judged<'_> {
             && self.results_named(inst)
     }
 
-    /// What stands against it as an instruction's record.
+    /// Refuses it as an instruction's record.
     fn check_inst(self, inst: &InstRecord) -> Result<(), Cause>
         ensures { result ≡ checked (first (inst_checks self.entry.image.now.bytes.now self.entry.number inst.now)) }
     {
@@ -106,7 +106,7 @@ impl Judged<'_> {
         ensure(self.image.args_live(inst), Cause::NotLive)
     }
 
-    /// What stands against it, by its kind.
+    /// Refuses it by its kind.
     #[tactic(auto, unfolding(crate::specs::Faults::record_fault))]
     pub(crate) fn check(self) -> Result<(), Cause>
         ensures { result ≡ checked (record_fault self.entry.image.now.bytes.now self.entry.number) }

@@ -109,12 +109,9 @@ impl InstRecord {
         ensures { result ≡ counts_fit (asked_by self.now.opcode) self.now.arg_count self.now.result_count }
     {
         self.constraints().is_some_and(|asked| {
-            let most = if asked == OpcodeConstraints::Opaque {
-                2
-            } else {
-                1
-            };
-            asked.arg_count_fits(usize::from(self.arg_count)) && self.result_count <= most
+            asked.arg_count_fits(usize::from(self.arg_count))
+                && (self.result_count == 0
+                    || asked.result_count_fits(usize::from(self.result_count)))
         })
     }
 }

@@ -28,7 +28,7 @@ fn places_of(bytes: &[u8], kind: Kind) -> Result<Places, Cause>
 }
 
 /// An image with the records of each kind numbered.
-#[derive(Drop)]
+#[derive(Debug, Drop)]
 pub(crate) struct Numbered<'a> {
     bytes: &'a [u8],
     values: Places,

@@ -13,6 +13,7 @@ pub(crate) const RECORD_LEN: usize = 40;
 static BLANK: [u8; RECORD_LEN] = [0; RECORD_LEN];
 
 /// What a record is of, by its first byte.
+// The third case is what the byte says: the format goes by it, and the check of a record refuses it.
 #[derive(Clone, Copy, PartialEq, Eq, Debug)]
 pub enum Kind {
     /// 1

@@ -7,9 +7,9 @@ use ir::{Block, Inst, Type, Value};
 use rows::ValueData;
 
 /// A value record, its numbers as they stand.
+// The format has numbers for types: they may be unknown, and the check refuses those.
 #[derive(Clone, Copy, PartialEq, Eq, Debug)]
 pub enum ValueRecord {
-    // The format has numbers for types: they may be unknown, and the check refuses those.
     /// tag 0: result `num` of an instruction
     Inst { ty: u16, num: u32, inst: u32 },
     /// tag 1: parameter `num` of a block
@@ -82,6 +82,7 @@ impl ValueRecord {
         }
     }
 
+    // A method and no `From`: of numbers that the check refuses, what it answers is no conversion.
     /// The row that the record stands for. A number past 16 bits is cut, and a type that is unknown is invalid: the
     /// check refuses both.
     pub fn row(self) -> ValueData

@@ -44,13 +44,7 @@ pub trait ReadRows {
     fn are_live(&self, args: Operands) -> bool
         ensures { result ≡ all_live (rows self.now) args }
     {
-        // `args.iter().all(|a| self.is_live(a))` was tried: what a closure learns of a bound's method leaves the goal open.
-        match args {
-            Operands::Nullary => true,
-            Operands::Unary(a) => self.is_live(a),
-            Operands::Binary(a, b) => self.is_live(a) && self.is_live(b),
-            Operands::Ternary(a, b, c) => self.is_live(a) && self.is_live(b) && self.is_live(c),
-        }
+        args.iter().all(|a| self.is_live(a))
     }
 
     /// The widths of the operands, 0 where there is none.

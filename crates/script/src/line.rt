@@ -14,7 +14,7 @@ use calls::{BuildCall, NewInst};
 use std::alloc::Global;
 
 /// Reads the words of a line behind the name of the call.
-#[derive(Drop)]
+#[derive(Debug, Drop)]
 struct LineReader<'a> {
     /// Where lists are allocated.
     heap: Global,

@@ -27,6 +27,7 @@ const KEYWORDS: [(&str, Keyword); 6] = [
 ];
 
 /// The numbers of the types that have a name.
+// A table of its own: the format has no word for the invalid type, which `Type` names too.
 const TYPES: [(&str, u16); 5] = [
     ("i8", 8),
     ("i16", 16),
@@ -67,6 +68,8 @@ pub(crate) fn read_type(word: &[u8]) -> Option<u16>
 {
     look_up(&TYPES, word).or_else(|| read_number(word))
 }
+
+// Two chains for opcodes and conditions: what they share is `find`, and a trait that names their cases would be longer.
 
 /// The code of an opcode, from its name or from the code itself.
 pub(crate) fn read_opcode(word: &[u8]) -> Option<u8>

@@ -12,7 +12,7 @@ fn is_space(byte: u8) -> bool
 }
 
 /// The words of a line that are still to be read, one after another.
-#[derive(Drop)]
+#[derive(Debug, Drop)]
 pub(crate) struct Words<'a> {
     rest: &'a [u8],
 }
@@ -53,7 +53,7 @@ impl<'a> Iterator for Words<'a> {
 }
 
 /// The lines of a text that are still to be read, one after another.
-#[derive(Drop)]
+#[derive(Debug, Drop)]
 pub(crate) struct Lines<'a> {
     rest: &'a [u8],
 }

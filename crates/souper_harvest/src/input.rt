@@ -5,7 +5,7 @@ use std::io::Read;
 use std::{env, fs, io};
 
 /// What the arguments ask for.
-#[derive(Drop)]
+#[derive(Debug, Drop)]
 pub(crate) enum Command {
     /// Run the script on standard input.
     Input,

@@ -10,9 +10,9 @@ use ir::Value;
 /// A live value of a graph, from which a walk starts.
 // The graph may be of any type, so a root is neither compared nor printed.
 #[derive(Drop)]
-pub struct LiveRoot<'a, G: FlowGraph> {
-    pub graph: &'a G,
-    pub value: Value,
+pub(crate) struct LiveRoot<'a, G: FlowGraph> {
+    pub(crate) graph: &'a G,
+    pub(crate) value: Value,
     ghost alive: { live (G.meaning graph.now) value.0 ≡ true },
 }
 
