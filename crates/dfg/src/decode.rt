@@ -13,6 +13,7 @@ pub(crate) fn types_known(types: &[u16]) -> bool
 }
 
 /// The type of the first result, invalid where there is none.
+// Bits that no type has were refused before: the invalid type stands for no result, and never for them.
 pub(crate) fn first_type(types: &[u16]) -> Type
     ensures { result ≡ first_type types.now }
 {

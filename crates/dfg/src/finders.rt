@@ -41,6 +41,8 @@ impl Visitor for AliasFinder<'_> {
     }
 }
 
+// Marks are a slice here: their definitions speak of a list, and a struct around the array would only wrap it.
+
 /// Whether a value is marked, where marks go by value number.
 fn is_marked(marked: &[bool], v: Value) -> bool
     ensures { result ≡ slice_index_or marked.now v.0 false }

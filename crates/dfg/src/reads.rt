@@ -1,5 +1,5 @@
 // What the tables say of one value or one instruction.
-ghost use Rattle.std.specs.Prelude.{◌≡◌};
+ghost use Rattle.std.specs.Prelude.{◌≡◌, slice_get};
 ghost use Rattle.rows.specs.Rows.{original};
 ghost use Rattle.plain.specs.Attached.{attached};
 ghost use Rattle.plain.specs.Loops.{through};
@@ -20,14 +20,18 @@ impl ReadRows for Tables {
     }
 
     fn inst_data(&self, inst: Inst) -> InstructionData {
-        self.insts
-            .get(inst.0 as usize)
-            .copied()
-            .unwrap_or(InstructionData::MISSING)
+        self.inst(inst).unwrap_or(InstructionData::MISSING)
     }
 }
 
 impl Tables {
+    /// The row of an instruction, if there is one.
+    pub(crate) fn inst(&self, inst: Inst) -> Option<InstructionData>
+        ensures { result ≡ slice_get (held self.now).insts inst.0 }
+    {
+        self.insts.get(inst.0 as usize).copied()
+    }
+
     /// The end of a value's aliases.
     pub(crate) fn resolve_aliases(&self, value: Value) -> Value
         ensures { result.0 ≡ original (held self.now) value.0 }

@@ -17,7 +17,8 @@ pub struct Counts {
 fn check_each(image: &Numbered) -> Result<(), Refusal>
     ensures { result ≡ answer_unless (first_fault (record_fault image.now.bytes.now) 0 (record_count image.now.bytes.now)) tt }
 {
-    // A record goes by its number, which is the refusal's place and is what other records name: nothing is indexed.
+    // A record goes by its number, which is the refusal's place: nothing is indexed. One loop for this and the check of widths
+    // would be a public call that asks something of its closure, and none here asks anything.
     for number in 0..image.num_records() {
         let place = number as u32;
         image

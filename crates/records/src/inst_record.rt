@@ -52,6 +52,7 @@ impl InstRecord {
         }
     }
 
+    // A method and no `From`: of numbers that the check refuses, what it answers is no conversion.
     /// The row that the record stands for. An unknown opcode is read as opaque and an unknown condition as the first:
     /// the check refuses both.
     #[tactic(auto, using(crate::proofs::Lookups::known_or))]

@@ -100,6 +100,7 @@ impl Record<'_> {
         self.kind() == kind
     }
 
+    // Methods and no `From`: any record can be read as either, and only one that was checked means what is read.
     /// The record read as a value's.
     pub fn value(self) -> ValueRecord
         ensures { result ≡ value_record self.entry.bytes.now }

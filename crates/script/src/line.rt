@@ -41,14 +41,23 @@ impl LineReader<'_> {
         self.words.next().and_then(read).ok_or(self.unreadable())
     }
 
+    /// Refuses what stands where nothing may stand.
+    fn nothing<T: Drop>(&self, there: Option<T>) -> Result<(), ScriptError>
+        ensures { MatchOption there (result ≡ Ok tt) (λ _. result ≡ Err (script_error.Line self.now.number)) }
+    {
+        match there {
+            None => Ok(()),
+            Some(_) => Err(self.unreadable()),
+        }
+    }
+
     /// The call, if no word is left.
     fn finish(&mut self, call: BuildCall) -> Result<BuildCall, ScriptError>
         ensures { Reads self.old.number call_of result (none (call_of call) self.old.words) }
     {
-        match self.words.next() {
-            None => Ok(call),
-            Some(_) => Err(self.unreadable()),
-        }
+        let more = self.words.next();
+        self.nothing(more)?;
+        Ok(call)
     }
 
     /// `append_block_param BLOCK TYPE`
@@ -82,10 +91,7 @@ impl LineReader<'_> {
         ensures says { result ≡ ok_or (option_map (λ _. tt) (once place.old x)) (script_error.Line self.now.number) }
         ensures put { place.new ≡ Some x }
     {
-        match place.replace(x) {
-            None => Ok(()),
-            Some(_) => Err(self.unreadable()),
-        }
+        self.nothing(place.replace(x))
     }
 
     /// Adds an item. A second immediate or condition cannot be read.
