@@ -18,6 +18,7 @@ pub fn apply(
     ensures value { result ≡ answered (length marks.old) (plain graph.old) (call_of call.now) (answer_to (plain graph.old) (call_of call.now)) }
     ensures marks { marks.new ≡ marks_after (plain graph.old) (call_of call.now) marks.old }
 {
+    // Calls are data, as a script gives them: cases, and no closures.
     match call {
         BuildCall::MakeBlock => graph.make_block().map(Answer::Block),
         BuildCall::AppendBlockParam(block, ty) => {

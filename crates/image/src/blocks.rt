@@ -8,6 +8,7 @@ use ir::{Inst, Value};
 use rows::{InstructionData, ReadRows, ValueData};
 
 /// How many blocks it takes for the block that a value's row names to exist.
+// 0 and not an option: no block is how many it takes where none is named.
 fn blocks_in(row: ValueData) -> u64
     ensures { result ≡ blocks_in row }
 {

@@ -73,6 +73,7 @@ impl<'a, G: Digraph> Dfs<'a, G> {
                 }
                 State::Open => {
                     self.states[v.index()] = State::Finished(self.next);
+                    // Each node is finished once, so this stays below 1,024; nothing rests on it.
                     self.next = self.next.saturating_add(1);
                     self.stack.pop();
                 }

@@ -98,6 +98,7 @@ impl LineReader<'_> {
     fn add(&self, items: &mut Items, item: Item) -> Result<(), ScriptError>
         ensures { Reads self.now.number (λ _. items_said items.new) result (with_item (items_said items.old) item) }
     {
+        // What an item adds goes by its case, which carries the number.
         match item {
             Item::Operand(value) => items.args.push(value)?,
             Item::Immediate(imm) => self.once(&mut items.imm, imm)?,
@@ -160,6 +161,7 @@ impl LineReader<'_> {
     fn call(&mut self, keyword: Keyword) -> Result<BuildCall, ScriptError>
         ensures { Reads self.old.number call_of result (call_behind keyword self.old.words) }
     {
+        // Keywords are words of the format: cases, and no table of functions.
         match keyword {
             Keyword::MakeBlock => self.finish(BuildCall::MakeBlock),
             Keyword::AppendBlockParam => self.block_param(),

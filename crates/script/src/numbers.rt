@@ -5,6 +5,8 @@ ghost use Rattle.script.specs.Numbers.{below, decimal_after, number, behind, num
 
 use ir::{Block, Inst, Value};
 
+// By hand, since `parse` takes a `+` in front, which the format has not.
+
 /// The number that a digit writes behind those that write `n`, if it is below 2^64.
 fn with_digit(n: u64, byte: u8) -> Option<u64>
     ensures { result ≡ below (2 ^ 64) (decimal_after n (byte ∷ [])) }

@@ -12,6 +12,7 @@ fn is_space(byte: u8) -> bool
 }
 
 /// The words of a line that are still to be read, one after another.
+// A type of its own: a reader keeps its words in a field, and a chain of `split` and `filter` has no name to write there.
 #[derive(Debug, Drop)]
 pub(crate) struct Words<'a> {
     rest: &'a [u8],
@@ -53,6 +54,7 @@ impl<'a> Iterator for Words<'a> {
 }
 
 /// The lines of a text that are still to be read, one after another.
+// `split` would give one empty line more behind the last line feed.
 #[derive(Debug, Drop)]
 pub(crate) struct Lines<'a> {
     rest: &'a [u8],
