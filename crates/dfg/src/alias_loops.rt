@@ -57,7 +57,7 @@ impl NewAlias<'_> {
     }
 
     /// The lowest value that would be in a loop, or the one behind the last.
-    // A number for none, as in its definition: it is asked only where there is one.
+    // It is asked only where there is one, so an option would need an arm that cannot be reached.
     fn lowest_in_loop(&self, marks: &mut [u8; MARKS]) -> Value
         ensures lowest { result.0 ≡ lowest_in_loop (plain self.now.graph.now) self.now.dest.0 self.now.original.0 }
         ensures marks { marks.new ≡ replicate 1024 0 }

@@ -13,7 +13,8 @@ pub(crate) fn types_known(types: &[u16]) -> bool
 }
 
 /// The type of the first result, invalid where there is none.
-// Bits that no type has were refused before: the invalid type stands for no result, and never for them.
+// The definition of what fits takes a type: the invalid one stands for no result, and never for bits that no type has, which
+// were refused before.
 pub(crate) fn first_type(types: &[u16]) -> Type
     ensures { result ≡ first_type types.now }
 {

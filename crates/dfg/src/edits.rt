@@ -36,6 +36,7 @@ fn num_block_params(values: &[ValueData], block: Block) -> u16
 }
 
 /// Adds a row for each result of the instruction `inst`.
+// Only the vector is lent here, so its capacity is said: the room is an invariant of the tables around it.
 fn push_results(values: &mut Vec<ValueData>, types: &[u16], inst: Inst)
     requires few { length types.now ≤ 2 }
     requires room { vec_len values.old + length types.now ≤ vec_capacity values.old }

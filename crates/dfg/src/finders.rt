@@ -41,7 +41,7 @@ impl Visitor for AliasFinder<'_> {
     }
 }
 
-// Marks are a slice here: their definitions speak of a list, and a struct around the array would only wrap it.
+// Functions of a slice: their definitions speak of a list, and a struct would put a field's name into each of them.
 
 /// Whether a value is marked, where marks go by value number.
 fn is_marked(marked: &[bool], v: Value) -> bool

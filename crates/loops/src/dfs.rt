@@ -32,10 +32,11 @@ pub(crate) fn search<G: Digraph>(graph: &G) -> [State; NODES] {
 }
 
 /// A depth-first search of a graph, which ranks each node as it is finished, so after what it leads to.
-// The graph may be of any type, so a search is neither compared nor printed.
+// Nothing compares or prints a search.
 #[derive(Drop)]
 struct Dfs<'a, G> {
     graph: &'a G,
+    // An array with a place for each node: a search allocates nothing.
     states: [State; NODES],
     /// The rank of the node that is finished next.
     next: u16,

@@ -10,8 +10,6 @@ use crate::lowest::lowest_in_loop;
 use crate::node::NODES;
 use ir::{Operands, Value};
 
-// The states are a slice here: the definitions speak of a list, and a struct around the array would only wrap it.
-
 /// Whether `w` is no node, or has a lower rank than `v`.
 #[tactic(auto, unfolding(crate::specs::Ranks::is_below))]
 fn is_lower(states: &[State; NODES], v: Value, w: Value) -> bool

@@ -11,6 +11,7 @@ use std::marker::Model;
 /// The nodes that a search has met, each once, in the order in which it met them.
 #[derive(Debug, Drop)]
 pub(crate) struct Met {
+    // An array with a place for each node: a search allocates nothing.
     /// Whether each node was met.
     marks: [bool; NODES],
     nodes: ArrayVec<Node, NODES>,

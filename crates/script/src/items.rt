@@ -6,6 +6,7 @@ use crate::numbers::{read_immediate, read_value};
 use ir::Value;
 
 /// What a word between an opcode and the arrow says.
+// A condition stays a number, as a call carries it.
 #[derive(Clone, Copy, PartialEq, Eq, Debug)]
 pub(crate) enum Item {
     Operand(Value),

@@ -8,6 +8,7 @@ pub const MARKS: usize = 1024;
 
 /// The marks of a walk, by value number, in bytes that the caller lends: none at first, and none again when the walk lets
 /// them go.
+// Nothing compares or prints marks, and their `Drop` is the point of them.
 pub(crate) struct Marks<'a> {
     bytes: &'a mut [u8; MARKS],
 }

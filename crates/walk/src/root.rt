@@ -8,7 +8,7 @@ use flow::{FlowGraph, value_args};
 use ir::Value;
 
 /// A live value of a graph, from which a walk starts.
-// The graph may be of any type, so a root is neither compared nor printed.
+// Nothing compares or prints a root.
 #[derive(Drop)]
 pub(crate) struct LiveRoot<'a, G: FlowGraph> {
     pub(crate) graph: &'a G,
