@@ -1,10 +1,9 @@
 -- The first place against which something stands. Assumes nothing.
-use Rattle.std.proofs.Common.{◌≡◌, ℕ, zero, suc, ◌+◌, ◌-◌, ◌<◌, ◌≤◌, Some, None, Ok, Err, Option, sym, refl, ap, ◌∙◌, inl, inr, add-one, arith}
+use Rattle.std.proofs.Common.{◌≡◌, ℕ, zero, suc, ◌+◌, ◌-◌, ◌<◌, ◌≤◌, Some, None, Option, sym, refl, ap, ◌∙◌, inl, inr, add-one, arith}
 use Rattle.std.proofs.lemmas.Bool.{cases_lt}
 use Rattle.std.specs.Option.{option_map}
-use Rattle.ir.specs.Refusals.{or_else, first_fault, answer_unless}
+use Rattle.ir.specs.Refusals.{or_else, first_fault}
 use Rattle.ir.specs.declared.refusal.Cause.{Cause}
-use Rattle.ir.specs.declared.refusal.Refusal.{Refusal}
 
 module _ (fault : ℕ → Option Cause) where
   -- something stands here, and nothing before
@@ -49,13 +48,3 @@ module _ (fault : ℕ → Option Cause) where
   none_found (suc n) k all =
       ap (λ o. or_else (option_map (λ (w : Cause). record { cause = w; place = k }) o) (first_fault fault (suc k) n)) (all k (omega arith) (omega arith))
       ∙ none_found n (suc k) (λ j l m. all j (omega arith) (omega arith))
-
--- ---- what an answer says of its refusal
-
-pub refused_by : {A : Type 0} (o : Option Refusal) (x : A) (why : Refusal) → Err why ≡ answer_unless o x → o ≡ Some why
-refused_by (Some w) x why e = cc
-refused_by None x why e = let z : ◌≡◌ {A = ℕ} 0 1 = cc in absurd (omega arith)
-
-pub not_refused : {A : Type 0} (o : Option Refusal) (x y : A) → Ok y ≡ answer_unless o x → o ≡ None
-not_refused (Some w) x y e = let z : ◌≡◌ {A = ℕ} 0 1 = cc in absurd (omega arith)
-not_refused None x y e = refl

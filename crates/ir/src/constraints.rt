@@ -93,7 +93,7 @@ impl OpcodeConstraints {
         }
     }
 
-    // Widths as numbers, 0 where there is no operand: a deleted value has width 0 too, and neither passes.
+    // Widths as numbers, 0 where there is no operand, as for a deleted value: where a width is read, 0 does not pass.
     /// Whether a result of the width `w` goes with operands of these widths, 0 where there is none.
     pub fn widths_fit(self, w: u8, args: (u8, u8, u8)) -> bool
         ensures { result ≡ widths_fit self w args.0 args.1 args.2 }

@@ -82,7 +82,7 @@ impl fmt::Display for Operands {
 }
 
 /// Goes through operands, from either end.
-#[derive(Clone, Copy, Debug)]
+#[derive(Clone, Copy, PartialEq, Eq, Debug)]
 pub struct Args {
     /// Those that are still to come.
     rest: Operands,
