@@ -111,6 +111,7 @@ impl Tables {
         inst
     }
 
+    // That it is there is asked here, of `clear` and of `resolve_inst`: a type of such numbers would have to name its tables.
     /// The row of an instruction, to change in place.
     fn inst_mut(&mut self, inst: Inst) -> &mut InstructionData
         requires { inst.0 < vec_len self.old.insts }
