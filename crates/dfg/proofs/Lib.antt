@@ -1,4 +1,3 @@
-pub mod Asking
 pub mod Decoding
 pub mod Marking
 pub mod Rows

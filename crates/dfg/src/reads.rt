@@ -1,6 +1,5 @@
 // What the tables say of one value or one instruction.
-ghost use Rattle.std.specs.Prelude.{◌≡◌, slice_get};
-ghost use Rattle.rows.specs.Rows.{original};
+ghost use Rattle.std.specs.Prelude.{◌≡◌};
 ghost use Rattle.plain.specs.Attached.{attached};
 ghost use Rattle.plain.specs.Loops.{through};
 ghost use Rattle.dfg.specs.Held.{held};
@@ -12,6 +11,14 @@ use rows::{InstructionData, ReadRows, ValueData};
 impl ReadRows for Tables {
     ghost rows = { held };
 
+    fn num_values(&self) -> u32 {
+        self.values.len() as u32
+    }
+
+    fn num_insts(&self) -> u32 {
+        self.insts.len() as u32
+    }
+
     fn value_data(&self, v: Value) -> ValueData {
         self.values
             .get(v.0 as usize)
@@ -20,29 +27,14 @@ impl ReadRows for Tables {
     }
 
     fn inst_data(&self, inst: Inst) -> InstructionData {
-        self.inst(inst).unwrap_or(InstructionData::MISSING)
+        self.insts
+            .get(inst.0 as usize)
+            .copied()
+            .unwrap_or(InstructionData::MISSING)
     }
 }
 
 impl Tables {
-    /// The row of an instruction, if there is one.
-    pub(crate) fn inst(&self, inst: Inst) -> Option<InstructionData>
-        ensures { result ≡ slice_get (held self.now).insts inst.0 }
-    {
-        self.insts.get(inst.0 as usize).copied()
-    }
-
-    /// The end of a value's aliases.
-    pub(crate) fn resolve_aliases(&self, value: Value) -> Value
-        ensures { result.0 ≡ original (held self.now) value.0 }
-    {
-        let mut v = value;
-        while let ValueData::Alias { original, .. } = self.value_data(v) {
-            v = original;
-        }
-        v
-    }
-
     /// Whether a value's aliases lead through `dest`.
     pub(crate) fn leads_through(&self, value: Value, dest: Value) -> bool
         ensures { result ≡ through self.now.values.items dest.0 value.0 }

@@ -17,6 +17,16 @@ pub struct ImageRows<'a> {
 impl ReadRows for ImageRows<'_> {
     ghost rows = { λ image. rows_in image.bytes.now image.counts };
 
+    #[tactic(auto, using(crate::proofs::Held::num_values))]
+    fn num_values(&self) -> u32 {
+        self.counts.values
+    }
+
+    #[tactic(auto, using(crate::proofs::Held::num_insts))]
+    fn num_insts(&self) -> u32 {
+        self.counts.insts
+    }
+
     #[tactic(auto, using(crate::proofs::Held::value_in, crate::proofs::Held::value_past))]
     fn value_data(&self, v: Value) -> ValueData {
         if v.0 >= self.counts.values {

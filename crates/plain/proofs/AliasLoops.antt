@@ -1,5 +1,5 @@
 -- A new alias is refused for a loop exactly if the altered graph would have one, at the lowest value in one. Assumes nothing.
-use Rattle.std.proofs.Common.{unwrap_or, find, ◌≡◌, ℕ, zero, suc, ◌+◌, ◌<◌, ◌≤◌, Bool, true, false, cond, not, eqb, ◌≢◌, ◌⊎◌, List, length, get_or, Some, None, count_by, sym, refl, ap, ◌∙◌, subst, inl, inr, arith}
+use Rattle.std.proofs.Common.{unwrap_or, find, ◌≡◌, ℕ, zero, suc, ◌+◌, ◌<◌, ◌≤◌, Bool, true, false, cond, not, eqb, ◌≢◌, ◌⊎◌, List, length, get_or, Some, None, sym, refl, ap, ◌∙◌, subst, inl, inr, arith}
 use Rattle.std.specs.List.{range_with_len}
 use Rattle.std.proofs.lemmas.Bool.{cases_Bool, and_parts, and_from, not-true, ne_eqb, eqb-false, eqb-true, or_cases, false≢true}
 use Rattle.ir.specs.declared.entities.Value.{Value}
@@ -9,7 +9,7 @@ use Rattle.flow.specs.Meaning.{Flow, Lawful, Reach, here, through as further, us
 use Rattle.flow.proofs.Paths.{live_exists}
 use Rattle.flow.proofs.Walks.{walk_is_post_order}
 use Rattle.rows.specs.Meaning.{flow, def_in}
-use Rattle.rows.specs.Rows.{Rows, value_at, step_in, is_alias, follow, original, original_in}
+use Rattle.rows.specs.Rows.{Rows, value_at, step_in, follow, original, original_in}
 use Rattle.rows.specs.WellFormed.{WellFormed, Settled}
 use Rattle.rows.proofs.Aliases.{Ends, one_end}
 use Rattle.rows.proofs.Lawfulness.{lawful, length_flow}
@@ -23,7 +23,8 @@ use Rattle.plain.specs.Loops.{leads, through, reaches_through, closes, lowest_in
 use Rattle.plain.proofs.Accepted.{alias_accepted}
 use Rattle.plain.proofs.Kept.{alias_kept}
 use Rattle.plain.proofs.Loops.{Path, one, more, Loopless, Comes, reach_path, path_reach, looped, in_loop}
-use Rattle.plain.proofs.NoLoops.{uses_in, uses_are, rows_loopless, taken, left}
+use Rattle.rows.proofs.Leaning.{uses_in, uses_are}
+use Rattle.plain.proofs.NoLoops.{rows_loopless, taken, left}
 use Rattle.plain.proofs.Reaching.{reaches_some, some_reaches}
 use Rattle.plain.proofs.Through.{through_end}
 
@@ -50,7 +51,7 @@ follow_add rows (suc j) k v = follow_add rows j k (step_in v (get_or rows v Dele
 one_original : (rows : List ValueData) (d v : ℕ) → Settled rows → through rows d v ≡ true → original_in rows v ≡ original_in rows d
 unfolding through
 one_original rows d v s h =
-    let n : ℕ = count_by is_alias rows in
+    let n : ℕ = length rows in
     let t = led_to rows d n v h in
     let at : follow rows (t.0 + n) v ≡ original_in rows d = sym (follow_add rows t.0 n v) ∙ ap (follow rows n) t.1 in
     one_end rows n (t.0 + n) v (s v) (subst (Ends rows) (sym at) (s d)) ∙ at

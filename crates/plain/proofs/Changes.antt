@@ -1,5 +1,5 @@
 -- The calls that change rows in place keep a plain graph sound. Assumes nothing.
-use Rattle.std.proofs.Common.{◌≡◌, ℕ, zero, suc, ◌<◌, ◌≤◌, true, false, ◌&&◌, ltb, List, [], ◌∷◌, map, length, get_or, set, None, count_by, sym, refl, ap, ◌∙◌, subst, inl, inr, arith}
+use Rattle.std.proofs.Common.{◌≡◌, ℕ, zero, suc, ◌<◌, ◌≤◌, true, false, ◌&&◌, ltb, List, [], ◌∷◌, map, length, get_or, set, None, sym, refl, ap, ◌∙◌, subst, inl, inr, arith}
 use Rattle.std.proofs.lemmas.List.{length-set, length-map, get_or-set_same, get_or-set_other}
 use Rattle.std.proofs.lemmas.Bool.{and_parts, and_from, eqb-true, eq-eqb, cases_eq, false≢true}
 use Rattle.ir.specs.Codes.{type_bits}
@@ -81,7 +81,7 @@ alias_sound p marks dest src e s =
     let r : ℕ = original p src.0 in
     let row : ValueData = Alias ty (record { 0 = r }) in
     let l : d < length p.values = live_in p d a.dest_live in
-    let rt : width_at p r ≡ type_bits ty = width_follow p s.1 (count_by is_alias p.values) src.0 ∙ sym a.widths in
+    let rt : width_at p r ≡ type_bits ty = width_follow p s.1 (length p.values) src.0 ∙ sym a.widths in
     let same : (v : ℕ) → width_at q v ≡ width_at p v = same_part width_in p.values d row Deleted refl l in
     let keeps : Keeps p q = λ v h. same v in
     let o : OverInsts p q =
@@ -170,7 +170,7 @@ resolve_sound p s =
     let same : (v : ℕ) → width_at q (original p v) ≡ width_at p v =
     λ v.
     ap width_in (value (original p v)) ∙ width_erased (value_at p (original p v)) (s.4 v)
-    ∙ width_follow p s.1 (count_by is_alias p.values) v in
+    ∙ width_follow p s.1 (length p.values) v in
     let n : length q.insts ≡ length p.insts = length-map p.insts (rewritten (original p)) in
     let o : OverInsts p q =
     λ i ty h. (

@@ -21,7 +21,8 @@ use Rattle.plain.proofs.Accepted.{inst_accepted}
 use Rattle.plain.proofs.Changes.{clear_sound, alias_sound, resolve_sound, clear_blocks, resolve_blocks}
 use Rattle.plain.proofs.Growth.{Grown, values_fit, blocks_fit}
 use Rattle.plain.proofs.Loops.{Path, path_reach}
-use Rattle.plain.proofs.NoLoops.{uses_in, uses_are, more_no_loop, clear_no_loop, resolve_no_loop, alias_no_loop}
+use Rattle.rows.proofs.Leaning.{uses_in, uses_are}
+use Rattle.plain.proofs.NoLoops.{more_no_loop, clear_no_loop, resolve_no_loop, alias_no_loop}
 use Rattle.plain.proofs.Steps.{param_grown, inst_grown, param_sound, inst_sound, rows_end}
 use Rattle.plain.proofs.Through.{none_through}
 use Rattle.calls.specs.Calls.{MakeBlock, AppendBlockParam, AppendInst, ClearResults, ChangeToAlias, ResolveAllAliases}

@@ -1,9 +1,8 @@
 -- No building call makes a loop, if the source of a new alias reaches nothing that leads through the destination. Assumes nothing.
-use Rattle.std.proofs.Common.{◌≡◌, ℕ, ◌<◌, true, false, eqb, List, length, get_or, None, count_by, sym, refl, ap, ◌∙◌, subst, inl, inr}
-use mathlib.Core.Path.{fun_ext}
+use Rattle.std.proofs.Common.{◌≡◌, ℕ, ◌<◌, true, false, eqb, length, get_or, None, sym, refl, ap, ◌∙◌, subst, inl, inr}
 use Rattle.std.specs.List.{AllByRecursion as All}
-use Rattle.std.proofs.lemmas.List.{get_or-set_other, get_or_past}
-use Rattle.std.proofs.lemmas.Bool.{and_parts, or_cases, or_left, or_right, eqb-true, eq-eqb, ltb-true, cases_lt, false≢true}
+use Rattle.std.proofs.lemmas.List.{get_or-set_other}
+use Rattle.std.proofs.lemmas.Bool.{and_parts, or_cases, or_left, or_right, eqb-true, eq-eqb, ltb-true, false≢true}
 use Rattle.ir.specs.Constraints.{constraints_of}
 use Rattle.ir.specs.Entities.{values}
 use Rattle.ir.specs.declared.constraints.OpcodeConstraints.{OpcodeConstraints}
@@ -12,12 +11,13 @@ use Rattle.ir.specs.declared.entities.Inst.{Inst as IrInst}
 use Rattle.ir.specs.declared.entities.Value.{Value}
 use Rattle.ir.specs.declared.instructions.Operands.{Operands}
 use Rattle.ir.specs.declared.instructions.Operands.TheVariants.{Nullary, Unary, Binary, Ternary}
-use Rattle.flow.specs.Meaning.{Node, NoLoop, used, uses, has}
-use Rattle.rows.specs.Meaning.{flow, def_by, inst_def, def_in, def_at}
+use Rattle.flow.specs.Meaning.{NoLoop, used, has}
+use Rattle.rows.specs.Meaning.{flow, def_by, inst_def, def_in}
 use Rattle.rows.specs.Rows.{Rows, value_at, inst_at, no_inst, type_in, width_at, is_alias, original, original_in, all_live, erased}
 use Rattle.rows.specs.WellFormed.{Sound, value_fits}
 use Rattle.rows.proofs.Aliases.{follow_end}
-use Rattle.rows.proofs.Lawfulness.{node_in, node_past, live_in, def_live, original_in_lem, original_own}
+use Rattle.rows.proofs.Lawfulness.{live_in, def_live, original_in_lem, original_own}
+use Rattle.rows.proofs.Leaning.{uses_in, uses_are}
 use Rattle.plain.specs.Attached.{cleared, map_args, rewritten}
 use Rattle.ir.specs.Refusals.{first}
 use Rattle.plain.specs.Feed.{checks, grown}
@@ -31,22 +31,6 @@ use Rattle.calls.specs.Calls.{ClearResults, ChangeToAlias, ResolveAllAliases}
 use Rattle.rows.specs.declared.instruction.InstructionData.{InstructionData}
 use Rattle.rows.specs.declared.value.ValueData.{ValueData}
 use Rattle.rows.specs.declared.value.ValueData.TheVariants.{Inst, Param, Alias, Union, Deleted}
-
--- what a value uses, by its row
-abbrev pub uses_in : Rows → ℕ → List ℕ
-uses_in p v = used (def_at p v)
-
-pub uses_are : (p : Rows) → uses_in p ≡ uses (flow p)
-uses_are p =
-    fun_ext
-    (λ v.
-    elim (cases_lt v (length p.values)) [
-      | inl l ↦ sym (ap (λ (n : Node). used n.def) (node_in p v l))
-      | inr l ↦
-          let row : value_at p v ≡ Deleted = get_or_past p.values v Deleted l in
-          let own : original p v ≡ v = follow_end p.values (count_by is_alias p.values) v (ap is_alias row) in
-          ap (λ w. used (def_in p (value_at p w))) own ∙ ap (λ r. used (def_in p r)) row ∙ sym (ap (λ (n : Node). used n.def) (node_past p v l))
-    ])
 
 pub rows_loopless : (p : Rows) → NoLoop (flow p) → Loopless (uses_in p)
 rows_loopless p none = subst Loopless (sym (uses_are p)) (loopless (flow p) none)
@@ -67,7 +51,7 @@ module _ (p q : Rows) (g : Grown p q) (s : Sound p) (plain_rows : All (λ row. i
   def_kept Deleted h = refl
 
   original_kept : (v : ℕ) → original q v ≡ original p v
-  original_kept v = ap (λ rows. original_in rows v) g.values_are ∙ original_more p.values g.values plain_rows v
+  original_kept v = ap (λ rows. original_in rows v) g.values_are ∙ original_more p.values g.values plain_rows s.4 v
 
   uses_kept : (v : ℕ) → v < length p.values → uses_in q v ≡ uses_in p v
   uses_kept v l =
@@ -164,11 +148,11 @@ resolve_no_loop p s none =
     rows_no_loop q
     (resolved_loop (uses_in p) (uses_in q) (original p)
     (λ v b h.
-    let own : original q v ≡ v = follow_end q.values (count_by is_alias q.values) v (erased_ends p.values v) in
+    let own : original q v ≡ v = follow_end q.values (length q.values) v (erased_ends p.values v) in
     let e : uses_in q v ≡ used (def_in q (erased (value_at p v))) =
     ap (λ w. used (def_in q (value_at q w))) own ∙ ap (λ row. used (def_in q row)) (get_or_mapped erased p.values v Deleted) in
     let t = row_uses p (value_at p v) b (ap (λ o. has o b) (sym e) ∙ h) in
-    let mine : original p v ≡ v = follow_end p.values (count_by is_alias p.values) v t.0 in
+    let mine : original p v ≡ v = follow_end p.values (length p.values) v t.0 in
     let u = t.1 in
     (u.0, ap (λ w. has (used (def_in p (value_at p w))) u.0) mine ∙ u.1, u.2))
     (λ a. ap (λ w. used (def_in p (value_at p w))) (original_own p s a))

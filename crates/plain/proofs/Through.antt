@@ -1,9 +1,9 @@
 -- Whether aliases lead through a value, and what the finders find. Assumes nothing.
-use Rattle.std.proofs.Common.{Some, find, ◌≡◌, ℕ, zero, suc, ◌+◌, ◌<◌, Bool, true, false, cond, ◌||◌, eqb, List, [], ◌∷◌, ◌++◌, get_or, count_by, sym, refl, ap, ◌∙◌, subst, inl, inr, arith}
+use Rattle.std.proofs.Common.{Some, find, ◌≡◌, ℕ, zero, suc, ◌+◌, ◌<◌, Bool, true, false, cond, ◌||◌, eqb, List, [], ◌∷◌, ◌++◌, length, get_or, sym, refl, ap, ◌∙◌, subst, inl, inr, arith}
 use Rattle.std.specs.List.{range_with_len}
 use Rattle.std.proofs.lemmas.Bool.{or_left, or_right, or_cases, or_parts, eq-eqb, ne_eqb, eqb-true, false≢true}
 use Rattle.flow.specs.Meaning.{has}
-use Rattle.rows.specs.Rows.{step_in, is_alias, follow}
+use Rattle.rows.specs.Rows.{step_in, follow}
 use Rattle.rows.specs.WellFormed.{Settled}
 use Rattle.rows.proofs.Aliases.{Ends, step_end}
 use Rattle.plain.specs.Loops.{leads, through, any_through}
@@ -29,16 +29,16 @@ leads_more rows d (suc k) v e = ap (λ b. eqb v d || b) (leads_more rows d k (st
 
 pub through_here : (rows : List ValueData) (d v : ℕ) → v ≡ d → through rows d v ≡ true
 unfolding through
-through_here rows d v e = leads_here rows d (count_by is_alias rows) v (eq-eqb v d e)
+through_here rows d v e = leads_here rows d (length rows) v (eq-eqb v d e)
 
 pub through_end : (rows : List ValueData) (d v : ℕ) → Ends rows v → through rows d v ≡ eqb v d
 unfolding through
-through_end rows d v e = leads_end rows d (count_by is_alias rows) v e
+through_end rows d v e = leads_end rows d (length rows) v e
 
 pub through_step : (rows : List ValueData) (d v : ℕ) → Settled rows → (v ≡ d → ⊥) → through rows d (step_in v (get_or rows v Deleted)) ≡ through rows d v
 unfolding through
 through_step rows d v s ne =
-    let n : ℕ = count_by is_alias rows in
+    let n : ℕ = length rows in
     sym (ap (λ b. b || leads rows d n (step_in v (get_or rows v Deleted))) (ne_eqb v d ne)) ∙ leads_more rows d n v (s v)
 
 -- what holds of a front of a walk's list holds of the list

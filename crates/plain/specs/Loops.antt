@@ -1,5 +1,5 @@
 -- The loops that a new alias would make. Assumes nothing.
-use Rattle.std.specs.Prelude.{ℕ, zero, suc, Bool, cond, not, ◌&&◌, ◌||◌, List, length, Some, None, count_by, Option, ◌==◌, slice_index_or}
+use Rattle.std.specs.Prelude.{ℕ, zero, suc, Bool, cond, not, ◌&&◌, ◌||◌, List, length, Some, None, Option, ◌==◌, slice_index_or}
 use Rattle.std.specs.List.{find, list_any, range_with_len}
 use Rattle.std.specs.Option.{unwrap_or}
 use Rattle.ir.specs.declared.refusal.Cause.TheVariants.{Loop}
@@ -7,7 +7,7 @@ use Rattle.ir.specs.declared.refusal.Refusal.{Refusal}
 use Rattle.flow.specs.Meaning.{has}
 use Rattle.flow.specs.Walk.{walk}
 use Rattle.rows.specs.Meaning.{flow}
-use Rattle.rows.specs.Rows.{Rows, step_in, is_alias}
+use Rattle.rows.specs.Rows.{Rows, step_in}
 use Rattle.rows.specs.declared.value.ValueData.{ValueData}
 use Rattle.rows.specs.declared.value.ValueData.TheVariants.{Deleted}
 
@@ -18,7 +18,7 @@ leads rows d (suc k) v = v == d || leads rows d k (step_in v (slice_index_or row
 
 -- do a value's aliases lead through d
 unfoldable pub through : List ValueData → ℕ → ℕ → Bool
-through rows d v = leads rows d (count_by is_alias rows) v
+through rows d v = leads rows d (length rows) v
 
 -- do the aliases of one of the values lead through d
 abbrev pub any_through : List ValueData → ℕ → List ℕ → Bool

@@ -1,10 +1,9 @@
--- Circles of aliases: a chain of aliases that is in none is no longer than there are aliases. Assumes nothing.
-use Rattle.std.proofs.Common.{◌≡◌, ℕ, zero, suc, ◌+◌, ◌<◌, ◌≤◌, true, false, cond, eqb, List, [], ◌∷◌, map, length, get_or, count_by, sym, refl, ap, ◌∙◌, subst, inl, inr, arith}
+-- Circles of aliases: a chain of aliases that is in none is no longer than there are values. Assumes nothing.
+use Rattle.std.proofs.Common.{◌≡◌, ℕ, zero, suc, ◌<◌, ◌≤◌, true, false, eqb, List, [], ◌∷◌, length, get_or, sym, refl, ap, ◌∙◌, subst, inl, inr, arith}
 use Rattle.std.specs.List.{AllByRecursion as All}
-use Rattle.std.proofs.ByRecursion.{All-map, All-weaker}
-use Rattle.std.proofs.lemmas.List.{get_or_past, length-map}
-use Rattle.std.proofs.lemmas.List.Sums.{sum_by-cons}
-use Rattle.std.proofs.lemmas.Bool.{cases_Bool, cases_lt, cases_order, false≢true, or_cases, or_left, or_right, eqb-true, eq-eqb}
+use Rattle.std.proofs.ByRecursion.{All-weaker}
+use Rattle.std.proofs.lemmas.List.{get_or_past}
+use Rattle.std.proofs.lemmas.Bool.{cases_Bool, cases_lt, false≢true, or_cases, eqb-true}
 use Rattle.flow.specs.Loops.{Path, one, more, Loopless}
 use Rattle.flow.specs.Meaning.{has}
 use Rattle.flow.specs.Walk.{Distinct}
@@ -21,60 +20,15 @@ use Rattle.rows.specs.declared.value.ValueData.TheVariants.{Inst, Param, Alias, 
 abbrev GoesOn : List ValueData → ℕ → Type 0
 GoesOn rows v = is_alias (get_or rows v Deleted) ≡ true
 
--- ---- aliases are no more than their count
+-- ---- aliases are no more than there are values
 
-abbrev tally : ValueData → ℕ
-tally row = cond (is_alias row) 1 0
+goes_inside : (rows : List ValueData) (v : ℕ) → GoesOn rows v → v < length rows
+goes_inside rows v a =
+    elim (cases_lt v (length rows)) [ inl l ↦ l | inr l ↦ absurd (false≢true (sym (ap is_alias (get_or_past rows v Deleted l)) ∙ a)) ]
 
-tally_one : (row : ValueData) → is_alias row ≡ true → tally row ≡ 1
-tally_one row e = ap (λ b. cond b 1 0) e
-
--- how many aliases stand before the place
-abbrev rank : List ValueData → ℕ → ℕ
-rank [] v = 0
-rank (x ∷ xs) zero = 0
-rank (x ∷ xs) (suc v) = tally x + rank xs v
-
-rank_below : (rows : List ValueData) (v : ℕ) → GoesOn rows v → rank rows v < count_by is_alias rows
-rank_below [] v a = absurd (false≢true a)
-rank_below (x ∷ xs) zero a = omega (arith, tally_one x a, sum_by-cons tally x xs)
-rank_below (x ∷ xs) (suc v) a = omega (arith, rank_below xs v a, sum_by-cons tally x xs)
-
-rank_rises : (rows : List ValueData) (v w : ℕ) → GoesOn rows v → v < w → rank rows v < rank rows w
-rank_rises [] v w a l = absurd (false≢true a)
-rank_rises (x ∷ xs) v zero a l = absurd (omega arith)
-rank_rises (x ∷ xs) zero (suc w) a l = omega (arith, tally_one x a)
-rank_rises (x ∷ xs) (suc v) (suc w) a l = let m : v < w = omega arith in omega (arith, rank_rises xs v w a m)
-
-rank_tells : (rows : List ValueData) (v w : ℕ) → GoesOn rows v → GoesOn rows w → rank rows v ≡ rank rows w → v ≡ w
-rank_tells rows v w a b e =
-    elim (cases_order v w) [
-      | inl same ↦ same
-      | inr (inl l) ↦ absurd (omega (arith, rank_rises rows v w a l))
-      | inr (inr l) ↦ absurd (omega (arith, rank_rises rows w v b l))
-    ]
-
-ranks_have : (rows : List ValueData) (vs : List ℕ) (v : ℕ) → GoesOn rows v → All (GoesOn rows) vs
-    → has (map (rank rows) vs) (rank rows v) ≡ true → has vs v ≡ true
-ranks_have rows [] v a all h = absurd (false≢true h)
-ranks_have rows (w ∷ vs) v a all h =
-    elim (or_cases (eqb (rank rows w) (rank rows v)) _ h) [
-      | inl e ↦ or_left (eqb w v) _ (eq-eqb w v (rank_tells rows w v all.0 a (eqb-true _ _ e)))
-      | inr m ↦ or_right (eqb w v) _ (ranks_have rows vs v a all.1 m)
-    ]
-
-ranks_distinct : (rows : List ValueData) (vs : List ℕ) → All (GoesOn rows) vs → Distinct vs → Distinct (map (rank rows) vs)
-ranks_distinct rows [] all d = tt
-ranks_distinct rows (v ∷ vs) all d = (
-  not_has (map (rank rows) vs) (rank rows v) (λ h. false≢true (sym d.0 ∙ ranks_have rows vs v all.0 all.1 h)),
-  ranks_distinct rows vs all.1 d.1,
-)
-
-distinct_aliases : (rows : List ValueData) (vs : List ℕ) → All (GoesOn rows) vs → Distinct vs → length vs ≤ count_by is_alias rows
-distinct_aliases rows vs all d =
-    let n : ℕ = count_by is_alias rows in
-    let below = All-map (λ k. k < n) (rank rows) vs (All-weaker (GoesOn rows) (λ v. rank rows v < n) (rank_below rows) vs all) in
-    omega (arith, distinct_length n (map (rank rows) vs) (ranks_distinct rows vs all d) below, length-map vs (rank rows))
+few_aliases : (rows : List ValueData) (vs : List ℕ) → All (GoesOn rows) vs → Distinct vs → length vs ≤ length rows
+few_aliases rows vs all d =
+    distinct_length (length rows) vs d (All-weaker (GoesOn rows) (λ v. v < length rows) (goes_inside rows) vs all)
 
 -- ---- chains
 
@@ -122,15 +76,15 @@ chain_distinct rows (suc k) v none all = (
   chain_distinct rows k (step_in v (get_or rows v Deleted)) (λ j. none (suc j)) all.1,
 )
 
--- so it comes to its end in as many steps as there are aliases
+-- so it comes to its end in as many steps as there are values
 ends_in_time : (rows : List ValueData) (v : ℕ) → ((j : ℕ) → InCircle rows (follow rows j v) → ⊥)
-    → Ends rows (follow rows (count_by is_alias rows) v)
+    → Ends rows (follow rows (length rows) v)
 ends_in_time rows v none =
-    let c : ℕ = count_by is_alias rows in
+    let c : ℕ = length rows in
     elim (cases_Bool (is_alias (get_or rows (follow rows c v) Deleted))) [
       | inl a ↦
           let all = chain_aliases rows c v a in
-          let few = distinct_aliases rows (chain rows (suc c) v) all (chain_distinct rows (suc c) v none all) in
+          let few = few_aliases rows (chain rows (suc c) v) all (chain_distinct rows (suc c) v none all) in
           absurd (omega (arith, few, chain_length rows (suc c) v))
       | inr e ↦ e
     ]
@@ -163,25 +117,16 @@ end_no_circle rows v zero (suc j) e c =
     false≢true (sym e ∙ (subst (InCircle rows) (aliases.follow_end rows (suc j) v e) c).1)
 end_no_circle rows v (suc n) (suc j) e c = end_no_circle rows (step_in v (get_or rows v Deleted)) n j e c
 
--- if the aliases of a value come to an end at all, as many steps as there are aliases find it
-pub follow_end : (rows : List ValueData) (v n : ℕ) → is_alias (get_or rows (follow rows n v) Deleted) ≡ false
-    → follow rows (count_by is_alias rows) v ≡ follow rows n v
-follow_end rows v n e =
-    one_end rows (count_by is_alias rows) n v (ends_in_time rows v (λ j. end_no_circle rows v n j e)) e
+-- if the aliases of a value come to an end at all, as many steps as there are values find it
+pub ends_within : (rows : List ValueData) (v n : ℕ) → Ends rows (follow rows n v) → Ends rows (follow rows (length rows) v)
+ends_within rows v n e = ends_in_time rows v (λ j. end_no_circle rows v n j e)
 
-pub settled_from : (rows : List ValueData)
-    → ((v : ℕ) → v < length rows → is_alias (get_or rows (follow rows (length rows) v) Deleted) ≡ false) → Settled rows
-settled_from rows ends v =
-    elim (cases_lt v (length rows)) [
-      | inl l ↦ subst (Ends rows) (sym (follow_end rows v (length rows) (ends v l))) (ends v l)
-      | inr l ↦
-          let e : Ends rows v = ap is_alias (get_or_past rows v Deleted l) in
-          subst (Ends rows) (sym (aliases.follow_end rows (count_by is_alias rows) v e)) e
-    ]
+pub follow_end : (rows : List ValueData) (v n : ℕ) → Ends rows (follow rows n v) → follow rows (length rows) v ≡ follow rows n v
+follow_end rows v n e = one_end rows (length rows) n v (ends_within rows v n e) e
 
 pub settled_without_circles : SettledWithoutCircles
 settled_without_circles rows = (
-  λ settled v. end_no_circle rows v (count_by is_alias rows) 0 (settled v),
+  λ settled v. end_no_circle rows v (length rows) 0 (settled v),
   λ none v. ends_in_time rows v (λ j. none (follow rows j v)),
 )
 

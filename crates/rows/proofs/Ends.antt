@@ -1,5 +1,5 @@
 -- The aliases of a value lead to its original, and to nothing else. Assumes nothing.
-use Rattle.std.proofs.Common.{◌≡◌, ℕ, zero, suc, true, List, get_or, count_by, sym, refl, ap, ◌∙◌, subst, inl, inr}
+use Rattle.std.proofs.Common.{◌≡◌, ℕ, zero, suc, true, List, length, get_or, sym, refl, ap, ◌∙◌, subst, inl, inr}
 use Rattle.std.proofs.lemmas.Bool.{cases_Bool, false≢true}
 use Rattle.ir.specs.declared.entities.Value.{Value}
 use Rattle.ir.specs.declared.types.Type as T
@@ -37,6 +37,6 @@ only_end rows {v} (along ty o is r) (suc k) e =
 
 pub originals_are_ends : OriginalsAreEnds
 originals_are_ends p settled v = record {
-  leads = leads_on p.values (count_by is_alias p.values) v (settled v);
-  only = λ u l. only_end p.values l (count_by is_alias p.values) (settled v);
+  leads = leads_on p.values (length p.values) v (settled v);
+  only = λ u l. only_end p.values l (length p.values) (settled v);
 }

@@ -1,5 +1,5 @@
 -- What rows lean on: aliases, and the operands of operations. Assumes nothing.
-use Rattle.std.proofs.Common.{◌≡◌, ℕ, zero, suc, ◌<◌, ◌≤◌, true, false, ◌⊎◌, List, [], length, count_by, sym, refl, ap, ◌∙◌, subst, inl, inr}
+use Rattle.std.proofs.Common.{◌≡◌, ℕ, zero, suc, ◌<◌, ◌≤◌, true, false, ◌⊎◌, List, [], length, sym, refl, ap, ◌∙◌, subst, inl, inr}
 use mathlib.Core.Path.{fun_ext}
 use Rattle.std.proofs.lemmas.List.{get_or_past}
 use Rattle.std.proofs.lemmas.Bool.{cases_Bool, cases_lt, false≢true}
@@ -22,7 +22,7 @@ abbrev pub uses_in : Rows → ℕ → List ℕ
 uses_in p v = used (def_at p v)
 
 own_original : (p : Rows) (v : ℕ) → Ends p.values v → original p v ≡ v
-own_original p v e = follow_end p.values (count_by is_alias p.values) v e
+own_original p v e = follow_end p.values (length p.values) v e
 
 pub uses_are : (p : Rows) → uses_in p ≡ uses (flow p)
 uses_are p =
@@ -108,7 +108,7 @@ module _ (p : Rows) where
 
   use_leans : (v w : ℕ) → has (uses (flow p) v) w ≡ true → Path (leans_on p) v w
   use_leans v w h =
-      along_aliases (count_by is_alias p.values) v w
+      along_aliases (length p.values) v w
       (one (operand_leans p (value_at p (original p v)) w (uses_in_lem _ _ w (ap (λ f. f v) (sym (uses_are p))) h)))
 
   pub leaning_sound : Loopless (leans_on p) → Settled p.values × NoLoop (flow p)
@@ -133,7 +133,7 @@ module _ (p : Rows) where
     alias_uses : (v w : ℕ) → has (alias_targets p v) w ≡ true → uses (flow p) v ≡ uses (flow p) w
     alias_uses v w h =
         let t = target_is v w (value_at p v) h in
-        let n : ℕ = count_by is_alias p.values in
+        let n : ℕ = length p.values in
         let same : original p v ≡ original p w = sym (follow_more p.values n v (settled v)) ∙ ap (original p) t.1 in
         subst (λ f. f v ≡ f w) (uses_are p) (ap (λ u. used (def_in p (value_at p u))) same)
 

@@ -1,15 +1,26 @@
-ghost use Rattle.std.specs.Prelude.{◌≡◌};
-ghost use Rattle.rows.specs.Meaning.{def_in};
-ghost use Rattle.rows.specs.Rows.{Rows, value_at, inst_at, type_in, width_at, live, all_live, widths_of};
+ghost use Rattle.std.specs.Prelude.{◌≡◌, length};
+ghost use Rattle.ir.specs.Entities.{value};
+ghost use Rattle.flow.specs.Layout.{asked_inst, inst_at as laid_at};
+ghost use Rattle.flow.specs.Meaning.{asked, def_of, original_of};
+ghost use Rattle.rows.specs.Meaning.{flow as flow_of, layout as layout_of, def_in, def_at};
+ghost use Rattle.rows.specs.Rows.{Rows, value_at, inst_at, type_in, width_at, live, all_live, widths_of, original};
 
 use crate::instruction::InstructionData;
 use crate::value::ValueData;
 use flow::ValueDef;
-use ir::{Inst, Operands, Type, Value};
+use ir::{Block, Cause, Inst, Operands, Refusal, Type, Value, ensure};
 
 /// Rows that can be read one by one, wherever they are kept.
 pub trait ReadRows {
     ghost rows: { Self → Rows };
+
+    /// How many values there are, deleted ones too.
+    fn num_values(&self) -> u32
+        ensures { result ≡ length (rows self.now).values };
+
+    /// How many instructions there are.
+    fn num_insts(&self) -> u32
+        ensures { result ≡ length (rows self.now).insts };
 
     /// The row of a value, a deleted one where there is none.
     fn value_data(&self, v: Value) -> ValueData
@@ -73,5 +84,65 @@ pub trait ReadRows {
             ValueData::Param { .. } | ValueData::Union { .. } => ValueDef::Variable,
             ValueData::Alias { .. } | ValueData::Deleted => ValueDef::Deleted,
         }
+    }
+
+    /// The original of a value: the end of its aliases.
+    ///
+    /// It takes a step for each alias on the way. Where aliases go round, which no graph's do, it gives up after as many steps
+    /// as there are values.
+    fn resolve_aliases(&self, v: Value) -> Value
+        ensures { result.0 ≡ original (rows self.now) v.0 }
+    {
+        let mut current = v;
+        for _ in 0..self.num_values() {
+            let ValueData::Alias { original, .. } = self.value_data(current) else {
+                break;
+            };
+            current = original;
+        }
+        current
+    }
+
+    /// What defines a value: what defines its original.
+    fn original_def(&self, v: Value) -> ValueDef
+        ensures { result ≡ def_at (rows self.now) v.0 }
+    {
+        self.row_def(self.value_data(self.resolve_aliases(v)))
+    }
+
+    /// The original of a value, refused where there is no such value.
+    #[tactic(auto, using(crate::proofs::Asked::original_asked))]
+    fn ask_original(&self, v: Value) -> Result<Value, Refusal>
+        ensures { result ≡ asked (flow_of (rows self.now)) v.0 (value (original_of (flow_of (rows self.now)) v.0)) }
+    {
+        ensure(v.0 < self.num_values(), Cause::NotLive)?;
+        Ok(self.resolve_aliases(v))
+    }
+
+    /// What defines a value, refused where there is no such value.
+    #[tactic(auto, using(crate::proofs::Asked::def_asked))]
+    fn ask_def(&self, v: Value) -> Result<ValueDef, Refusal>
+        ensures { result ≡ asked (flow_of (rows self.now)) v.0 (def_of (flow_of (rows self.now)) v.0) }
+    {
+        ensure(v.0 < self.num_values(), Cause::NotLive)?;
+        Ok(self.original_def(v))
+    }
+
+    /// The block of an instruction, refused where there is no such instruction.
+    #[tactic(auto, using(crate::proofs::Asked::block_asked))]
+    fn ask_block(&self, inst: Inst) -> Result<Block, Refusal>
+        ensures { result ≡ asked_inst (layout_of (rows self.now)) inst.0 (laid_at (layout_of (rows self.now)) inst.0).block }
+    {
+        ensure(inst.0 < self.num_insts(), Cause::NotLive)?;
+        Ok(self.inst_data(inst).block)
+    }
+
+    /// The result of an instruction, if it lists just one, refused where there is no such instruction.
+    #[tactic(auto, using(crate::proofs::Asked::result_asked))]
+    fn ask_single_result(&self, inst: Inst) -> Result<Option<Value>, Refusal>
+        ensures { result ≡ asked_inst (layout_of (rows self.now)) inst.0 (laid_at (layout_of (rows self.now)) inst.0).result }
+    {
+        ensure(inst.0 < self.num_insts(), Cause::NotLive)?;
+        Ok(self.inst_data(inst).results.single())
     }
 }

@@ -1,5 +1,4 @@
-use Rattle.std.proofs.Common.{◌≡◌, count_by}
-use Rattle.rows.specs.Rows.{is_alias}
+use Rattle.std.proofs.Common.{◌≡◌, length}
 use Rattle.rows.proofs.Aliases.{depth}
 use Rattle.dfg.specs.Held.{held}
 use Rattle.plain.specs.Loops.{through}
@@ -10,4 +9,4 @@ abbrev pub invariant-loop-original : goal.invariant-loop-original
 invariant-loop-original l = through (held l.self).values l.dest.0 l.v.0 ≡ through (held l.self).values l.dest.0 l.initial.v.0
 
 abbrev pub decreases-loop-original : goal.decreases-loop-original
-decreases-loop-original l = depth (held l.self).values (count_by is_alias (held l.self).values) l.v.0
+decreases-loop-original l = depth (held l.self).values (length (held l.self).values) l.v.0
