@@ -1,2 +1,4 @@
+pub mod Accepting
+pub mod Fitting
 pub mod Held
 pub mod Naming

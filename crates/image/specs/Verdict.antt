@@ -13,8 +13,10 @@ use Rattle.rows.specs.Rows.{Rows, empty, value_at, inst_at, width_at, widths_of}
 use Rattle.rows.specs.declared.instruction.InstructionData.{InstructionData}
 use Rattle.rows.specs.declared.value.ValueData.{ValueData}
 use Rattle.rows.specs.declared.value.ValueData.TheVariants.{Inst, Param, Alias, Union, Deleted}
-use Rattle.records.specs.Faults.{records_refusal}
+use Rattle.rows.specs.WellFormed.{WellFormed}
+use Rattle.records.specs.Faults.{records_refusal, counts_of}
 use Rattle.records.specs.RowsOf.{rows_of}
+use Rattle.records.specs.declared.check.Counts.{Counts}
 
 -- ---- widths and immediates, row by row
 
@@ -53,10 +55,16 @@ pub record LowestRound (p : Rows) (v : ℕ) : Type 0 where
   pub goes_round : GoesRound p v
   pub lowest : (u : ℕ) → GoesRound p u → v ≤ u
 
--- rows are passed if nothing in them goes round, and else refused with 9, at the lowest value that does
+abbrev pub NothingGoesRound : Rows → Type 0
+NothingGoesRound p = (v : ℕ) → GoesRound p v → ⊥
+
+-- rows in which something goes round are refused with 9, at the lowest value that does
+abbrev pub RefusedByRounds : Rows → Refusal → Type 0
+RefusedByRounds p why = (cause_number why.cause ≡ 9) × LowestRound p why.place
+
 abbrev pub JudgedByRounds : Rows → Result (Unit {0}) Refusal → Type 0
-JudgedByRounds p (Ok done) = (v : ℕ) → GoesRound p v → ⊥
-JudgedByRounds p (Err why) = (cause_number why.cause ≡ 9) × LowestRound p why.place
+JudgedByRounds p (Ok done) = NothingGoesRound p
+JudgedByRounds p (Err why) = RefusedByRounds p why
 
 -- ---- the verdict
 
@@ -64,16 +72,22 @@ JudgedByRounds p (Err why) = (cause_number why.cause ≡ 9) × LowestRound p why
 unfoldable pub early_refusal : List ℕ → Option Refusal
 early_refusal bs = or_else (records_refusal bs) (widths_refusal (rows_of bs))
 
--- the answer: that refusal if there is one, and else by what goes round
-abbrev pub JudgedAfter : Option Refusal → Rows → Result (Unit {0}) Refusal → Type 0
-JudgedAfter (Some why) p r = r ≡ Err why
-JudgedAfter None p r = JudgedByRounds p r
-
-abbrev pub Verdict : List ℕ → Result (Unit {0}) Refusal → Type 0
-Verdict bs r = JudgedAfter (early_refusal bs) (rows_of bs) r
-
 abbrev pub Accepted : List ℕ → Type 0
-Accepted bs = Verdict bs (Ok tt)
+Accepted bs = (early_refusal bs ≡ None) × NothingGoesRound (rows_of bs)
+
+-- why bytes are refused: with that refusal if there is one, and else by what goes round
+abbrev pub RefusedWith : Option Refusal → Rows → Refusal → Type 0
+RefusedWith (Some early) p why = why ≡ early
+RefusedWith None p why = RefusedByRounds p why
+
+-- the answer: how many records of each kind accepted bytes have, or why bytes are refused
+abbrev pub Verdict : List ℕ → Result Counts Refusal → Type 0
+Verdict bs (Ok counts) = Accepted bs × (counts ≡ counts_of bs)
+Verdict bs (Err why) = RefusedWith (early_refusal bs) (rows_of bs) why
+
+-- bytes that are an image: nothing stands against their records, and these stand for well-formed rows
+abbrev pub IsImage : List ℕ → Type 0
+IsImage bs = (records_refusal bs ≡ None) × WellFormed (rows_of bs)
 
 -- accepted bytes stand for their rows, all others for no rows
 pub record StandsFor (bs : List ℕ) (p : Rows) : Type 0 where

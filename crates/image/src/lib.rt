@@ -7,4 +7,7 @@
 
 mod blocks;
 pub mod image_rows;
+mod laws;
 mod widths;
+
+pub use laws::image_stands;

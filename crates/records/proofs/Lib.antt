@@ -3,3 +3,4 @@ pub mod Clean
 pub mod Indexing
 pub mod Lookups
 pub mod Order
+pub mod Passed

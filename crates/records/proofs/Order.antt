@@ -80,15 +80,15 @@ kinds_exclude Value h = refl
 kinds_exclude Inst h = refl
 kinds_exclude Unknown h = absurd (false≢true h)
 
--- the first check of a list does not stand where none does
-shape_stands : (b : Bool) (why : Cause) (rest : Option Cause) → cond (not b) (Some why) rest ≡ None → b ≡ true
-shape_stands true why rest e = refl
-shape_stands false why rest e = let z : ◌≡◌ {A = ℕ} 0 1 = cc in absurd (omega arith)
+-- where none of a list of checks stands, the first does not, and none of the others
+pub none_first : (b : Bool) (why : Cause) (rest : Option Cause) → cond (not b) (Some why) rest ≡ None → (b ≡ true) × (rest ≡ None)
+none_first true why rest e = (refl, e)
+none_first false why rest e = let z : ◌≡◌ {A = ℕ} 0 1 = cc in absurd (omega arith)
 
 -- a value record that nothing stands against is behind no instruction
 value_first : (bs : List ℕ) (k : ℕ) (t : Kind) → fault_by bs k t ≡ None → is_value t ≡ true → behind_inst bs k ≡ false
 value_first bs k Value e is =
-    not-true (behind_inst bs k) (and_parts _ _ (shape_stands (value_shape bs k (value_record (record_at bs k))) _ _ e)).0
+    not-true (behind_inst bs k) (and_parts _ _ (none_first (value_shape bs k (value_record (record_at bs k))) _ _ e).0).0
 value_first bs k Inst e is = absurd (false≢true is)
 value_first bs k Unknown e is = absurd (false≢true is)
 
