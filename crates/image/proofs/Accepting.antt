@@ -21,7 +21,7 @@ use Rattle.image.proofs.Fitting.{blocks_fit, few, fits_clean, insts_fit, results
 round_settled : (p : Rows) → NothingGoesRound p → Settled p.values × NoLoop (flow p)
 round_settled p none = ((settled_without_circles p.values).1 (λ v c. none v (inl c)), λ v w h r. none v (inr (w, h, r)))
 
-settled_round : (p : Rows) → Settled p.values → NoLoop (flow p) → NothingGoesRound p
+pub settled_round : (p : Rows) → Settled p.values → NoLoop (flow p) → NothingGoesRound p
 settled_round p settled loopless v (inl c) = (settled_without_circles p.values).0 settled v c
 settled_round p settled loopless v (inr (w, h, r)) = loopless v w h r
 

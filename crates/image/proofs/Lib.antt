@@ -1,4 +1,5 @@
 pub mod Accepting
 pub mod Fitting
 pub mod Held
+pub mod GoingRound
 pub mod Naming

@@ -6,8 +6,10 @@
 #![tactic(auto)]
 
 mod blocks;
+mod digraphs;
 pub mod image_rows;
 mod laws;
+mod rounds;
 mod widths;
 
 pub use laws::image_stands;
