@@ -16,7 +16,7 @@ use Rattle.ir.specs.declared.refusal.Refusal.{Refusal}
 use Rattle.rows.specs.Rows.{Rows}
 use Rattle.calls.specs.Calls.{InstCall, AppendInst}
 use Rattle.rows.specs.declared.instruction.InstructionData.{InstructionData}
-use Rattle.plain.proofs.Feeding.{passed, refused}
+use Rattle.ir.proofs.Answered.{passed, refused}
 use Rattle.plain.specs.Feed.{checks, row_checks, inst_row, names_known, counts_fit, types_known, results_from}
 
 -- what the exit of a `?` returns

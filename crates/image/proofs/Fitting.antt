@@ -16,6 +16,7 @@ use Rattle.ir.specs.declared.refusal.Cause.TheVariants.{Immediate, Widths}
 use Rattle.ir.specs.declared.types.Type as T
 use Rattle.ir.specs.declared.types.Type.TheVariants as ty
 use Rattle.ir.proofs.Faults.{none_stands}
+use Rattle.ir.proofs.Limits.{few_args, known_live}
 use Rattle.rows.specs.Rows.{Rows, value_at, inst_at, no_inst, width_at, width_in, widths_of, all_live, all_live_by, names}
 use Rattle.rows.specs.WellFormed.{Few, ValuesFit, InstsFit, BlocksFit, ResultsFit, result_fits, results_fit, value_fits}
 use Rattle.rows.specs.declared.instruction.InstructionData.{InstructionData}
@@ -39,21 +40,6 @@ use Rattle.image.proofs.Held.{inst_in, inst_past, num_insts, num_values, value_i
 use Rattle.image.proofs.Naming.{blocks_are, most_has, most_within}
 
 -- ---- types
-
-type_live : (n : ℕ) (t : Option T.Type) → t ≡ type_at n → is_some t ≡ true → ltb 0 (type_bits (unwrap_or t ty.Invalid)) ≡ true
-type_live n None e h = absurd (false≢true h)
-type_live n (Some ty.Invalid) e h = absurd (never n e)
-  where
-    never : (n : ℕ) → Some ty.Invalid ≡ type_at n → ⊥
-    never n e = grind (arith, nat_tests)
-type_live n (Some ty.Other) e h = refl
-type_live n (Some ty.I8) e h = refl
-type_live n (Some ty.I16) e h = refl
-type_live n (Some ty.I32) e h = refl
-type_live n (Some ty.I64) e h = refl
-
-known_live : (n : ℕ) → is_some (type_at n) ≡ true → ltb 0 (type_bits (type_or n)) ≡ true
-known_live n h = type_live n (type_at n) refl h
 
 record_live : (r : ValueRecord) → type_known r ≡ true → not (is_deleted r) ≡ true → ltb 0 (width_in (value_row r)) ≡ true
 record_live (Inst t num inst) k d = known_live t k
@@ -93,20 +79,9 @@ args_alive bs t alive i h =
     args_by i (λ args. all_live_by t args ≡ true) (λ e. refl) (λ e. first (omega arith)) (λ e. and_from _ _ (first (omega arith)) (second (omega arith)))
     (λ l. and_from _ _ (first (omega arith)) (and_from _ _ (second (omega arith)) (third (omega arith))))
 
--- no opcode takes more than three operands
-three_args : (c : OpcodeConstraints) (n : ℕ) → arg_count_fits c n ≡ true → n ≤ 3
-three_args kind.Constant n h = omega (arith, eqb-true n 0 h)
-three_args kind.Unary n h = omega (arith, eqb-true n 1 h)
-three_args kind.Binary n h = omega (arith, eqb-true n 2 h)
-three_args kind.Shift n h = omega (arith, eqb-true n 2 h)
-three_args kind.Select n h = omega (arith, eqb-true n 3 h)
-three_args kind.Extend n h = omega (arith, eqb-true n 1 h)
-three_args kind.Compare n h = omega (arith, eqb-true n 2 h)
-three_args kind.Opaque n h = leb-true n 3 h
-
 args_counted : (c : OpcodeConstraints) (i : InstRecord) → arg_count_fits c i.arg_count ≡ true → arg_count_fits c (arg_count (args_of i)) ≡ true
 args_counted c i h =
-    let few = three_args c i.arg_count h in
+    let few = few_args c i.arg_count h in
     let same : arg_count (args_of i) ≡ i.arg_count = args_by i (λ args. arg_count args ≡ i.arg_count) sym sym sym (λ l. omega arith) in
     ap (arg_count_fits c) same ∙ h
 

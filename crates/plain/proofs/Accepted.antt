@@ -3,6 +3,7 @@ use Rattle.std.proofs.Common.{◌≡◌, ℕ, ◌+◌, ◌<◌, ◌≤◌, Bool,
 use Rattle.std.specs.List.{AllByRecursion as All}
 use Rattle.std.proofs.lemmas.Bool.{and_parts, or_parts, not-false, leb-false, leb-true, ltb-false, eqb-true, eqb-false}
 use Rattle.ir.specs.Codes.{type_bits, type_at, opcode_at, intcc_at}
+use Rattle.ir.proofs.Limits.{few_args}
 use Rattle.ir.specs.Constraints.{arg_count_fits, result_count_fits, immediate_fits}
 use Rattle.ir.specs.Entities.{arg_count, operands_of}
 use Rattle.ir.specs.declared.constraints.OpcodeConstraints.{OpcodeConstraints}
@@ -53,17 +54,7 @@ pub record New (p : Rows) (n : InstCall) : Type 0 where
   pub inst_room : length p.insts < 1024
   pub value_room : length p.values + length n.types ≤ 1024
 
--- no opcode takes more than three operands or gives more than two results
-few_args : (s : OpcodeConstraints) (n : ℕ) → arg_count_fits s n ≡ true → n ≤ 3
-few_args Constant n e = omega (arith, eqb-true n 0 e)
-few_args Unary n e = omega (arith, eqb-true n 1 e)
-few_args Binary n e = omega (arith, eqb-true n 2 e)
-few_args Shift n e = omega (arith, eqb-true n 2 e)
-few_args Select n e = omega (arith, eqb-true n 3 e)
-few_args Extend n e = omega (arith, eqb-true n 1 e)
-few_args Compare n e = omega (arith, eqb-true n 2 e)
-few_args Opaque n e = leb-true n 3 e
-
+-- no opcode gives more than two results
 few_results_of : (s : OpcodeConstraints) (n : ℕ) → result_count_fits s n ≡ true → n ≤ 2
 few_results_of Constant n e = omega (arith, eqb-true n 1 e)
 few_results_of Unary n e = omega (arith, eqb-true n 1 e)

@@ -17,15 +17,6 @@ answers_more p (x ∷ cs) c = ap (λ l. answered 1024 p x (answer_to p x) ∷ l)
 
 -- ---- one answer for another
 
--- what is answered passed, and what is not was refused
-pub passed : {A : Type 0} (o : Option Refusal) (x y : A) → Ok x ≡ answer_unless o y → (o ≡ None) × (x ≡ y)
-passed None x y e = let same : x ≡ y = cc in (refl, same)
-passed (Some w) x y e = let z : ◌≡◌ {A = ℕ} 0 1 = cc in absurd (omega arith)
-
-pub refused : {A : Type 0} (o : Option Refusal) (y : A) (why : Refusal) → Err why ≡ answer_unless o y → o ≡ Some why
-refused None y why e = let z : ◌≡◌ {A = ℕ} 0 1 = cc in absurd (omega arith)
-refused (Some w) y why e = let same : why ≡ w = cc in ap Some (sym same)
-
 -- what a call leaves and answers where it is refused, and where it is not
 module _ {A : Type 0} (marks : ℕ) (p : Rows) (c : Call) (x : A) where
   pub call_refused : (why : Refusal) → refusal p marks c ≡ Some why → (p ≡ fed_with marks p c) × (Err why ≡ answered marks p c x)

@@ -1,17 +1,15 @@
 -- The calls that add rows keep a plain graph sound. Assumes nothing.
-use Rattle.std.proofs.Common.{◌≡◌, ℕ, suc, ◌+◌, ◌<◌, ◌≤◌, true, false, ◌&&◌, ltb, List, [], ◌∷◌, ◌++◌, length, get_or, ℤ, is_some, Some, None, Option, unwrap_or, sym, refl, ap, ◌∙◌, subst, inl, inr, arith}
+use Rattle.std.proofs.Common.{◌≡◌, ℕ, suc, ◌+◌, ◌<◌, ◌≤◌, true, false, ◌&&◌, List, [], ◌∷◌, ◌++◌, length, get_or, ℤ, is_some, None, sym, refl, ap, ◌∙◌, subst, inl, inr, arith}
 use Rattle.std.specs.List.{AllByRecursion as All}
 use Rattle.std.proofs.lemmas.List.{length-append, length_push, append-nil, get_or_push, get_or_past, get_or_at, get_or-append-add}
-use Rattle.std.proofs.lemmas.Bool.{and_parts, and_from, lt-ltb, eq-eqb, eqb-true, false≢true, cases_eq}
-use Rattle.std.proofs.lemmas.Bool.Decides.{nat_tests}
+use Rattle.std.proofs.lemmas.Bool.{and_parts, and_from, lt-ltb, eq-eqb, eqb-true, cases_eq}
 use Rattle.ir.specs.Codes.{type_bits, type_at}
+use Rattle.ir.proofs.Limits.{known_live}
 use Rattle.ir.specs.Constraints.{constraints_of, arg_count_fits, result_count_fits, widths_fit, immediate_fits}
 use Rattle.ir.specs.Entities.{arg_count}
 use Rattle.ir.specs.declared.constraints.OpcodeConstraints.{OpcodeConstraints}
 use Rattle.ir.specs.declared.constraints.OpcodeConstraints.TheVariants.{Constant, Unary, Binary, Shift, Select, Extend, Compare, Opaque}
 use Rattle.ir.specs.declared.entities.Block.{Block}
-use Rattle.ir.specs.declared.types.Type as T
-use Rattle.ir.specs.declared.types.Type.TheVariants.{Invalid, Other, I8, I16, I32, I64}
 use Rattle.rows.specs.Rows.{Rows, value_at, names, is_alias, inst_at, no_inst, widths_of}
 use Rattle.rows.specs.WellFormed.{Sound, value_fits, result_fits, results_fit}
 use Rattle.plain.specs.Attached.{param_count}
@@ -25,21 +23,6 @@ use Rattle.calls.specs.Calls.{AppendBlockParam, AppendInst}
 use Rattle.calls.specs.Calls.{InstCall}
 use Rattle.rows.specs.declared.instruction.InstructionData.{InstructionData}
 use Rattle.rows.specs.declared.value.ValueData.TheVariants.{Inst, Param, Deleted}
-
-type_live : (bits : ℕ) (t : Option T.Type) → t ≡ type_at bits → is_some t ≡ true → ltb 0 (type_bits (unwrap_or t Invalid)) ≡ true
-type_live bits None e h = absurd (false≢true h)
-type_live bits (Some Invalid) e h = absurd (never bits e)
-  where
-    never : (bits : ℕ) → Some Invalid ≡ type_at bits → ⊥
-    never bits e = grind (arith, nat_tests)
-type_live bits (Some Other) e h = refl
-type_live bits (Some I8) e h = refl
-type_live bits (Some I16) e h = refl
-type_live bits (Some I32) e h = refl
-type_live bits (Some I64) e h = refl
-
-known_live : (bits : ℕ) → is_some (type_at bits) ≡ true → ltb 0 (type_bits (type_or bits)) ≡ true
-known_live bits h = type_live bits (type_at bits) refl h
 
 unfoldable pub param_grown : (p : Rows) (b : Block) (ty : ℕ) → Grown p (grown p (AppendBlockParam b ty))
 param_grown p b ty =

@@ -6,7 +6,8 @@ use Rattle.rows.specs.WellFormed.{WellFormed}
 use Rattle.calls.specs.Calls.{InstCall, AppendInst, inst_of}
 use Rattle.plain.specs.Feed.{refusal, grown, inst_row, result_rows, next_inst}
 use Rattle.plain.proofs.Accepted.{inst_accepted}
-use Rattle.plain.proofs.Feeding.{passed, refused, call_refused, call_done}
+use Rattle.ir.proofs.Answered.{passed, refused}
+use Rattle.plain.proofs.Feeding.{call_refused, call_done}
 use Rattle.plain.proofs.Kept.{inst_kept}
 use Rattle.dfg.specs.Plain.{plain}
 use Rattle.dfg.proofs.Decoding.{exit_is}

@@ -16,7 +16,8 @@ use Rattle.plain.specs.Loops.{loop_refusal, reaches_through}
 use Rattle.plain.specs.Marks.{swept_unless}
 use Rattle.plain.proofs.Accepted.{AliasOf, alias_accepted}
 use Rattle.plain.proofs.AliasLoops.{judged}
-use Rattle.plain.proofs.Feeding.{passed, refused, call_refused, call_done}
+use Rattle.ir.proofs.Answered.{passed, refused}
+use Rattle.plain.proofs.Feeding.{call_refused, call_done}
 use Rattle.plain.proofs.Kept.{alias_kept, no_refusal}
 use Rattle.dfg.specs.Plain.{plain}
 use Rattle.dfg.proofs.Decoding.{exit_is}
