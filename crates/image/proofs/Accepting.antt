@@ -1,5 +1,6 @@
 -- Bytes are accepted exactly if they are an image, and there is one verdict on them. Assumes nothing.
-use Rattle.std.proofs.Common.{◌≡◌, ℕ, List, Some, None, Ok, Err, Option, length, sym, refl, ap, ap₂, ◌∙◌, subst, inl, inr, arith}
+use Rattle.std.proofs.Common.{◌≡◌, ℕ, Decides, List, is_ok, Some, None, Ok, Err, Option, Result, length, sym, refl, ap, ap₂, ◌∙◌, subst, inl, inr, arith}
+use Rattle.std.proofs.lemmas.Bool.{false≢true}
 use Rattle.ir.proofs.Faults.{none_found}
 use Rattle.ir.proofs.OneToOne.{cause_numbers}
 use Rattle.ir.specs.Refusals.{or_else}
@@ -12,8 +13,9 @@ use Rattle.rows.specs.WellFormed.{BlocksFit, Few, InstsFit, ResultsFit, Settled,
 use Rattle.rows.proofs.Circles.{settled_without_circles}
 use Rattle.records.specs.Faults.{records_refusal}
 use Rattle.records.specs.RowsOf.{rows_of}
+use Rattle.records.specs.declared.check.Counts.{Counts}
 use Rattle.image.specs.Theorems.{AcceptedExactly, OneVerdict}
-use Rattle.image.specs.Verdict.{Accepted, IsImage, NothingGoesRound, RefusedWith, early_refusal, row_fault, widths_refusal}
+use Rattle.image.specs.Verdict.{Accepted, IsImage, NothingGoesRound, RefusedWith, Verdict, early_refusal, row_fault, widths_refusal}
 use Rattle.image.proofs.Fitting.{blocks_fit, few, fits_clean, insts_fit, results_fit_lem, rows_are, values_fit}
 
 -- ---- what goes round
@@ -88,13 +90,10 @@ one_verdict bs (Ok m) (Err why) h k = absurd (not_refused bs (early_refusal bs) 
 one_verdict bs (Err why) (Ok n) h k = absurd (not_refused bs (early_refusal bs) (rows_of bs) why k.0.0 k.0.1 h)
 one_verdict bs (Err v) (Err w) h k = ap Err (one_refusal bs (early_refusal bs) (rows_of bs) v w h k)
 
--- ---- the stages
-
-module _ (bs : List ℕ) where
-  pub refused_by_records : (why : Refusal) → records_refusal bs ≡ Some why → early_refusal bs ≡ Some why
-  unfolding early_refusal
-  refused_by_records why e = ap (λ o. or_else o (widths_refusal (rows_of bs))) e
-
-  pub past_records : records_refusal bs ≡ None → early_refusal bs ≡ widths_refusal (rows_of bs)
-  unfolding early_refusal
-  past_records e = ap (λ o. or_else o (widths_refusal (rows_of bs))) e
+-- what a verdict says of the bytes
+pub verdict_decides : (bs : List ℕ) (r : Result Counts Refusal) → Verdict bs r → Decides (is_ok r) (IsImage bs)
+verdict_decides bs (Ok n) h = (λ e. accepted_image bs h.0, λ i. refl)
+verdict_decides bs (Err why) h = (
+  λ e. absurd (false≢true e),
+  λ i. let a = image_accepted bs i in absurd (not_refused bs (early_refusal bs) (rows_of bs) why a.0 a.1 h),
+)

@@ -1,5 +1,6 @@
 pub mod Accepting
 pub mod Fitting
-pub mod Held
 pub mod GoingRound
+pub mod Held
 pub mod Naming
+pub mod Stages

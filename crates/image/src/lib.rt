@@ -1,15 +1,18 @@
-//! An image: a laid-out graph in the caller's bytes. Begun, and not whole.
+//! An image: a laid-out graph in the caller's bytes. A graph over the bytes does not stand yet.
 //!
-//! What stands: the rows that the records hold (`image_rows.rt`), how many blocks they take (`blocks.rt`), and the check
-//! of their widths and immediates (`widths.rt`). What does not stand yet: the check of bytes as a whole, and a graph over
-//! the bytes; `specs/Verdict.antt` says what that check is to answer, and `specs/Theorems.antt` what is to hold of it.
+//! Start at `check.rt`, the check of bytes as a whole, and at `specs/Verdict.antt`, which says what it answers. The check has
+//! three stages: the records one by one (the crate `records`), the widths and immediates of the rows that they hold
+//! (`widths.rt`, over `image_rows.rt`), and what goes round among the rows (`rounds.rt`). `specs/Theorems.antt` says which bytes
+//! are accepted.
 #![tactic(auto)]
 
 mod blocks;
+mod check;
 mod digraphs;
 pub mod image_rows;
 mod laws;
 mod rounds;
 mod widths;
 
+pub use check::check_image;
 pub use laws::image_stands;
