@@ -1,9 +1,8 @@
 -- The rows of records that nothing stands against, tested one by one. Assumes nothing.
-use Rattle.std.proofs.Common.{◌≡◌, ℕ, ◌+◌, ◌%◌, ◌<◌, ◌≤◌, Bool, true, cond, not, ◌&&◌, ◌||◌, ltb, eqb, List, map, length, get_or, is_some, Some, None, Option, unwrap_or, sym, refl, ap, ap₂, ◌∙◌, subst, inl, inr, arith}
+use Rattle.std.proofs.Common.{◌≡◌, ℕ, ◌+◌, ◌%◌, ◌<◌, ◌≤◌, Bool, true, cond, not, ◌&&◌, ◌||◌, ltb, eqb, List, map, length, get_or, Some, None, Option, unwrap_or, sym, refl, ap, ap₂, ◌∙◌, subst, inl, inr, arith}
 use Rattle.std.specs.Option.{option_map}
-use Rattle.std.proofs.lemmas.Bool.{and_from, and_parts, cases_lt, cond_both, cond-true, eq-eqb, eqb-false, eqb-true, false≢true, leb-true, lt-ltb, ltb-true, or_cases}
-use Rattle.std.proofs.lemmas.Bool.Decides.{nat_tests}
-use Rattle.ir.specs.Codes.{opcode_at, type_at, type_bits, type_or}
+use Rattle.std.proofs.lemmas.Bool.{and_from, and_parts, cases_lt, cond_both, cond-true, eq-eqb, eqb-false, eqb-true, false≢true, lt-ltb, ltb-true, or_cases}
+use Rattle.ir.specs.Codes.{opcode_at, type_bits, type_or}
 use Rattle.ir.specs.Constraints.{constraints_of, arg_count_fits, immediate_fits, widths_fit}
 use Rattle.ir.specs.Entities.{arg_count}
 use Rattle.ir.specs.declared.constraints.OpcodeConstraints.{OpcodeConstraints}
@@ -13,8 +12,6 @@ use Rattle.ir.specs.declared.instructions.Operands.TheVariants.{Nullary, Unary, 
 use Rattle.ir.specs.declared.opcodes.Opcode.{Opcode}
 use Rattle.ir.specs.declared.opcodes.Opcode.TheVariants as op
 use Rattle.ir.specs.declared.refusal.Cause.TheVariants.{Immediate, Widths}
-use Rattle.ir.specs.declared.types.Type as T
-use Rattle.ir.specs.declared.types.Type.TheVariants as ty
 use Rattle.ir.proofs.Faults.{none_stands}
 use Rattle.ir.proofs.Limits.{few_args, known_live}
 use Rattle.rows.specs.Rows.{Rows, value_at, inst_at, no_inst, width_at, width_in, widths_of, all_live, all_live_by, names}

@@ -1,5 +1,5 @@
 // The check of bytes as a whole.
-ghost use Rattle.std.specs.Prelude.{◌≡◌, None, Decides, is_ok};
+ghost use Rattle.std.specs.Prelude.{Decides, is_ok};
 ghost use Rattle.image.specs.Verdict.{IsImage, Verdict};
 
 use crate::image_rows::ImageRows;

@@ -1,11 +1,8 @@
-use Rattle.std.proofs.Common.{◌≡◌, Ok, Err, Result, sym, ap, ◌∙◌, subst}
+use Rattle.std.proofs.Common.{◌≡◌, Ok, sym, ◌∙◌}
 use Rattle.std.proofs.lemmas.Result.{err_from_is_err_and}
 use Rattle.ir.specs.Refusals.{answer_unless}
-use Rattle.ir.specs.declared.refusal.Refusal.{Refusal}
 use Rattle.records.specs.Faults.{counts_of, records_refusal}
-use Rattle.records.specs.declared.check.Counts.{Counts}
-use Rattle.image.specs.Held.{rows_in}
-use Rattle.image.specs.Verdict.{Verdict, widths_refusal}
+use Rattle.image.specs.Verdict.{Verdict}
 use Rattle.image.proofs.Accepting.{verdict_decides}
 use Rattle.image.proofs.Stages.{all_pass, few_counted, records_refuse, rounds_refuse, widths_refuse}
 use Rattle.image.proofs.check.check_image.Goals as goal
