@@ -16,7 +16,7 @@ use std::alloc::{AllocError, Global};
 
 impl DataFlowGraph {
     /// An empty graph, with room for all that it may ever hold, so that no building call runs out of memory.
-    #[tactic(auto, using(plain::proofs::Kept::empty_loopless))]
+    #[tactic(auto, using(rows::proofs::Lawfulness::empty_loopless))]
     pub fn new(heap: Global) -> Result<DataFlowGraph, AllocError>
         ensures { IfOk result (λ g. plain g ≡ empty) }
     {

@@ -4,3 +4,4 @@ pub mod GoingRound
 pub mod Held
 pub mod Naming
 pub mod Stages
+pub mod Standing

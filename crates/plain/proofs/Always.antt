@@ -5,7 +5,7 @@ use Rattle.ir.specs.declared.refusal.Refusal.{Refusal}
 use Rattle.rows.specs.Meaning.{flow}
 use Rattle.rows.specs.Rows.{Rows, empty, original}
 use Rattle.rows.specs.WellFormed.{WellFormed}
-use Rattle.rows.proofs.Lawfulness.{lawful, laid_out}
+use Rattle.rows.proofs.Lawfulness.{empty_well_formed, lawful, laid_out}
 use Rattle.calls.specs.Calls.{Call, MakeBlock, AppendBlockParam, AppendInst, ClearResults, ChangeToAlias, ResolveAllAliases}
 use Rattle.plain.specs.AliasLoops.{Judged}
 use Rattle.ir.specs.Refusals.{first, or_else, answer_unless}
@@ -14,7 +14,7 @@ use Rattle.plain.specs.Loops.{loop_refusal, reaches_through}
 use Rattle.plain.specs.Theorems.{StaysWellFormed, AlwaysLawful, AliasesJudged}
 use Rattle.plain.proofs.Accepted.{none_stands}
 use Rattle.plain.proofs.AliasLoops.{judged}
-use Rattle.plain.proofs.Kept.{empty_loopless, block_kept, param_kept, inst_kept, clear_kept, resolve_kept, alias_kept, no_refusal}
+use Rattle.plain.proofs.Kept.{block_kept, param_kept, inst_kept, clear_kept, resolve_kept, alias_kept, no_refusal}
 
 neither : (a b : Option Refusal) → or_else a b ≡ None → (a ≡ None) × (b ≡ None)
 neither None b e = (refl, e)
@@ -36,13 +36,6 @@ unless_kept (Some why) p q after w = w
 pub stays_well_formed : StaysWellFormed
 stays_well_formed p marks c w =
     unless_kept (refusal p marks c) p (grown p c) (λ e. let n = neither (first (checks p marks c)) (last_check p c) e in accepted_kept p marks c n.0 n.1 w) w
-
-empty_well_formed : WellFormed empty
-empty_well_formed = (
-  ((omega arith, omega arith, omega arith), (λ v. refl), (λ i. refl), (λ i. refl), λ v. refl),
-  (λ i l. absurd (omega arith)),
-  empty_loopless,
-)
 
 all_well_formed : (p : Rows) (cs : List Call) → WellFormed p → WellFormed (fed_all p cs)
 all_well_formed p [] w = w

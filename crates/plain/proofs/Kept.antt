@@ -2,14 +2,14 @@
 use Rattle.std.proofs.Common.{◌≡◌, ℕ, ◌<◌, Bool, true, false, cond, [], ◌∷◌, length, Some, None, sym, refl, subst, arith}
 use Rattle.ir.specs.declared.refusal.Refusal.{Refusal}
 use Rattle.std.proofs.lemmas.List.{append-nil}
-use Rattle.std.proofs.lemmas.Bool.{lt-ltb, false≢true}
+use Rattle.std.proofs.lemmas.Bool.{lt-ltb}
 use Rattle.ir.specs.declared.entities.Block.{Block}
 use Rattle.ir.specs.declared.entities.Inst.{Inst}
 use Rattle.ir.specs.declared.entities.Value.{Value}
-use Rattle.flow.specs.Meaning.{NoLoop, through}
+use Rattle.flow.specs.Meaning.{through}
 use Rattle.flow.proofs.Walks.{walk_is_post_order}
 use Rattle.rows.specs.Meaning.{flow}
-use Rattle.rows.specs.Rows.{Rows, empty, no_inst, all_live, original}
+use Rattle.rows.specs.Rows.{Rows, no_inst, all_live, original}
 use Rattle.rows.specs.WellFormed.{WellFormed}
 use Rattle.rows.proofs.Lawfulness.{lawful}
 use Rattle.rows.proofs.Tables.{longer}
@@ -28,10 +28,6 @@ use Rattle.plain.proofs.Through.{none_through}
 use Rattle.calls.specs.Calls.{MakeBlock, AppendBlockParam, AppendInst, ClearResults, ChangeToAlias, ResolveAllAliases}
 use Rattle.calls.specs.Calls.{InstCall}
 use Rattle.rows.specs.declared.instruction.InstructionData.{InstructionData}
-
-pub empty_loopless : NoLoop (flow empty)
-unfolding flow
-empty_loopless = λ v w h r. false≢true h
 
 pub block_kept : (p : Rows) → p.blocks < 64 → WellFormed p → WellFormed (grown p MakeBlock)
 block_kept p room w =
