@@ -1,5 +1,5 @@
 -- Lists of numbers: membership, distinct lists, and how long one can be. Assumes nothing.
-use Rattle.std.proofs.Common.{◌≡◌, ℕ, zero, suc, ◌<◌, ◌≤◌, Bool, true, false, cond, ◌||◌, eqb, ◌⊎◌, List, [], ◌∷◌, ◌++◌, length, sym, refl, ap, ◌∙◌, inl, inr, ⊎_elim, arith}
+use Rattle.std.proofs.Common.{◌≡◌, ℕ, zero, suc, ◌<◌, ◌≤◌, Bool, true, false, cond, ◌||◌, eqb, ◌⊎◌, List, [], ◌∷◌, ◌++◌, map, length, sym, refl, ap, ◌∙◌, inl, inr, ⊎_elim, arith}
 use Rattle.std.specs.List.{AllByRecursion as All}
 use Rattle.std.proofs.lemmas.Bool.{cases_Bool, both_ways, eqb-true, eqb-false, eq-eqb, ne_eqb, or_cases, or_parts, or_from, or_left, or_right}
 use Rattle.flow.specs.Meaning.{has}
@@ -35,6 +35,23 @@ has_push_other (x ∷ vs) w v ne = ap (λ b. eqb x v || b) (has_push_other vs w 
 
 pub not_has : (vs : List ℕ) (v : ℕ) → (has vs v ≡ true → ⊥) → has vs v ≡ false
 not_has vs v no' = ⊎_elim (λ e. absurd (no' e)) (λ e. e) (cases_Bool (has vs v))
+
+pub has_map : (f : ℕ → ℕ) (vs : List ℕ) (v : ℕ) → has vs v ≡ true → has (map f vs) (f v) ≡ true
+has_map f [] v h = absurd (both_ways false refl h)
+has_map f (x ∷ vs) v h =
+    ⊎_elim (λ e. or_left _ _ (eq-eqb (f x) (f v) (ap f (eqb-true x v e)))) (λ e. or_right _ _ (has_map f vs v e)) (or_cases _ _ h)
+
+pub has_before_map : (f : ℕ → ℕ) (vs : List ℕ) (w : ℕ) → has (map f vs) w ≡ true → (v : ℕ) × (has vs v ≡ true) × (f v ≡ w)
+has_before_map f [] w h = absurd (both_ways false refl h)
+has_before_map f (x ∷ vs) w h = ⊎_elim
+    (λ e. (x, has_here x vs, eqb-true (f x) w e))
+    (λ e. let rest = has_before_map f vs w e in (rest.0, or_right _ _ rest.1, rest.2))
+    (or_cases _ _ h)
+
+-- f and h agree on a list if they do on what it has
+pub map_among : {A : Type 0} (f h : ℕ → A) (vs : List ℕ) → ((v : ℕ) → has vs v ≡ true → f v ≡ h v) → map f vs ≡ map h vs
+map_among f h [] same = refl
+map_among f h (v ∷ vs) same = λ i. same v (has_here v vs) i ∷ map_among f h vs (λ u m. same u (or_right _ _ m)) i
 
 -- what holds of each value that a list has
 pub all_among : (P : ℕ → Type 0) (vs : List ℕ) → ((v : ℕ) → has vs v ≡ true → P v) → All P vs

@@ -43,6 +43,12 @@ present (Operation o cc args) = true
 present Variable = true
 present Deleted = false
 
+abbrev pub is_variable : ValueDef → Bool
+is_variable (Constant z) = false
+is_variable (Operation o cc args) = false
+is_variable Variable = true
+is_variable Deleted = false
+
 -- the value exists and is not deleted
 abbrev pub live : Flow → ℕ → Bool
 live g v = present (def_of g v)

@@ -17,7 +17,7 @@ pub mod queries;
 pub use definition::ValueDef;
 pub use graph::FlowGraph;
 pub use layout::LaidOut;
-pub use queries::{is_live, value_args};
+pub use queries::{is_live, is_variable, original, value_args, value_definition};
 
 /// A value is live exactly where its width is not 0.
 pub fn widths_stand()

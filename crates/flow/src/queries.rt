@@ -1,6 +1,6 @@
 ghost use Rattle.std.specs.Prelude.{◌≡◌};
-ghost use Rattle.ir.specs.Entities.{values};
-ghost use Rattle.flow.specs.Meaning.{def_of, live, present, used, uses};
+ghost use Rattle.ir.specs.Entities.{value, values};
+ghost use Rattle.flow.specs.Meaning.{def_of, is_variable, live, original_of, present, used, uses};
 
 use crate::definition::ValueDef;
 use crate::graph::FlowGraph;
@@ -23,10 +23,17 @@ impl ValueDef {
     {
         !matches!(self, ValueDef::Deleted)
     }
+
+    /// Whether it is that of a variable.
+    pub fn is_variable(self) -> bool
+        ensures { result ≡ is_variable self }
+    {
+        matches!(self, ValueDef::Variable)
+    }
 }
 
 /// What defines `v`, `Deleted` where there is no such value.
-fn definition<G: FlowGraph>(graph: &G, v: Value) -> ValueDef
+pub fn value_definition<G: FlowGraph>(graph: &G, v: Value) -> ValueDef
     ensures { result ≡ def_of (G.meaning graph.now) v.0 }
 {
     graph.value_def(v).unwrap_or(ValueDef::Deleted)
@@ -36,12 +43,26 @@ fn definition<G: FlowGraph>(graph: &G, v: Value) -> ValueDef
 pub fn value_args<G: FlowGraph>(graph: &G, v: Value) -> Operands
     ensures { values result ≡ uses (G.meaning graph.now) v.0 }
 {
-    definition(graph, v).args()
+    value_definition(graph, v).args()
 }
 
 /// Whether `v` exists and is not deleted.
 pub fn is_live<G: FlowGraph>(graph: &G, v: Value) -> bool
     ensures { result ≡ live (G.meaning graph.now) v.0 }
 {
-    definition(graph, v).is_present()
+    value_definition(graph, v).is_present()
+}
+
+/// Whether `v` is a variable.
+pub fn is_variable<G: FlowGraph>(graph: &G, v: Value) -> bool
+    ensures { result ≡ is_variable (def_of (G.meaning graph.now) v.0) }
+{
+    value_definition(graph, v).is_variable()
+}
+
+/// The value at the end of the aliases of `v`, value 0 where there is no `v`.
+pub fn original<G: FlowGraph>(graph: &G, v: Value) -> Value
+    ensures { result ≡ value (original_of (G.meaning graph.now) v.0) }
+{
+    graph.resolve_aliases(v).unwrap_or(Value(0))
 }

@@ -1,5 +1,5 @@
 -- What one turn of the walk keeps. Assumes nothing.
-use Rattle.std.proofs.Common.{◌≡◌, ℕ, suc, ◌+◌, ◌<◌, ◌≤◌, true, false, not, eqb, List, [], ◌∷◌, ◌++◌, length, set, replicate, sym, refl, ap, ◌∙◌, subst, ⊎_elim, append_assoc, append-nil, arith, length-append, length-set, get_or-set_other, get_or-set_same}
+use Rattle.std.proofs.Common.{◌≡◌, ℕ, suc, ◌+◌, ◌*◌, ◌<◌, ◌≤◌, true, false, not, eqb, List, [], ◌∷◌, ◌++◌, length, set, replicate, sym, refl, ap, ◌∙◌, subst, ⊎_elim, append_assoc, append-nil, arith, length-append, length-set, get_or-set_other, get_or-set_same}
 use lib.ListN.{length-map, length-replicate}
 use Rattle.std.specs.Prelude.{reverse}
 use Rattle.std.specs.List.{AllByRecursion as All}
@@ -10,7 +10,7 @@ use Rattle.flow.specs.Meaning.{Flow, Lawful, uses, live, has}
 use Rattle.flow.specs.Walk.{walks, walk_from, walk, operand_count, step_count}
 use Rattle.flow.proofs.Among.{all_among, has_push, has_push_other}
 use Rattle.flow.proofs.Paths.{live_exists}
-use Rattle.flow.proofs.Steps.{steps_few}
+use Rattle.flow.proofs.Steps.{steps_within}
 use Rattle.flow.proofs.Walks.{walk_met, walk_new, walk_adds, walk_grows, walk_is_post_order, operand_count_append}
 use Rattle.walk.specs.declared.stack.StackEntry.{StackEntry}
 use Rattle.walk.specs.declared.stack.StackEntry.TheVariants.{Visit, Trace}
@@ -79,7 +79,7 @@ pub record Turn (g : Flow) (root : ℕ) (marks : List ℕ) (st : List StackEntry
 -- The same with the entries as a stack has them, the top last. Each of them is a step to come.
 pub record Walking (g : Flow) (root : ℕ) (marks : List ℕ) (items : List StackEntry) (steps : ℕ) (Fits : List ℕ → Type 0) : Type 0 where
   pub turn : Turn g root marks (reverse items) steps Fits
-  pub few : steps + length items ≤ 4097
+  pub few : steps + length items ≤ 1 + 4 * length g
 
 module _ (g : Flow) (lawful : Lawful g) where
   run_adds : (st : List StackEntry) (shown : List ℕ) → (more : List ℕ) × (run g st shown ≡ shown ++ more)
@@ -121,7 +121,7 @@ module _ {g : Flow} {root : ℕ} {marks : List ℕ} {steps : ℕ} {Fits : List �
       omega (arith, t.counted, both st, run_grows g t.lawful st t.shown, ap length t.comes, ap (operand_count g) t.comes)
 
   walking : {items : List StackEntry} → Turn g root marks (reverse items) steps Fits → Walking g root marks items steps Fits
-  walking {items} t = record { turn = t; few = omega (arith, to_come t, steps_few g t.lawful root t.alive, length-reverse items) }
+  walking {items} t = record { turn = t; few = omega (arith, to_come t, steps_within g t.lawful root t.alive, length-reverse items) }
 
   -- What is on top is taken.
   popped : {items : List StackEntry} (rest : List StackEntry) {entry e : StackEntry} → items ≡ rest ++ (entry ∷ []) → entry ≡ e → Walking g root marks items steps Fits → Turn g root marks (e ∷ reverse rest) steps Fits
@@ -222,10 +222,10 @@ module _ {g : Flow} {root : ℕ} {marks : List ℕ} {items : List StackEntry} (r
   new is top w unseen pushed = walking (subst (λ l. Turn g root marks l (steps + 1) Fits) (sym pushed) (new_turn v.0 (reverse rest) (popped rest is top w) unseen))
 
   -- There is room for the visit of a new value and for the operands above it.
-  pub room : items ≡ rest ++ (entry ∷ []) → entry ≡ Trace v → Walking g root marks items steps Fits → false ≡ marked marks v.0 → length rest + length (uses g v.0) < 4097
-  room is top w unseen =
+  pub room : items ≡ rest ++ (entry ∷ []) → entry ≡ Trace v → Walking g root marks items steps Fits → false ≡ marked marks v.0 → (cap : ℕ) → 4 * length g < cap → length rest + length (uses g v.0) < cap
+  room is top w unseen cap enough =
       let t = new_turn v.0 (reverse rest) (popped rest is top w) unseen in
-      omega (arith, to_come t, steps_few g t.lawful root t.alive, length-append (traced (uses g v.0)) (Visit v ∷ reverse rest), length-map (uses g v.0) (λ v. Trace (value v)), length-reverse rest)
+      omega (arith, to_come t, steps_within g t.lawful root t.alive, length-append (traced (uses g v.0)) (Visit v ∷ reverse rest), length-map (uses g v.0) (λ v. Trace (value v)), length-reverse rest)
 
 pub done : {g : Flow} {root : ℕ} {marks : List ℕ} {items : List StackEntry} {steps : ℕ} {Fits : List ℕ → Type 0} → items ≡ [] → Walking g root marks items steps Fits → Completed g root Fits steps
 done {g} {root} {marks} {steps = steps} {Fits} empty w = completed (subst (λ l. Turn g root marks (reverse l) steps Fits) empty w.turn)

@@ -17,7 +17,7 @@ pub(crate) struct LiveRoot<'a, G: FlowGraph> {
 }
 
 impl<G: FlowGraph> LiveRoot<'_, G> {
-    ghost use Rattle.std.specs.Prelude.{◌+◌, ◌<◌, ◌∷◌, ◌++◌, length, replicate};
+    ghost use Rattle.std.specs.Prelude.{◌+◌, ◌*◌, ◌<◌, ◌≤◌, ◌∷◌, ◌++◌, length, replicate};
     ghost use Rattle.arrayvec.specs.ArrayVec.{array_vec_len};
     ghost use Rattle.flow.specs.Meaning.{uses};
     ghost use Rattle.walk.specs.declared.stack.StackEntry.TheVariants.{Visit};
@@ -25,8 +25,8 @@ impl<G: FlowGraph> LiveRoot<'_, G> {
     ghost use Rattle.walk.specs.Stacked.{entries, traced};
 
     /// Pushes the visit of `v` and, on top of it, the operands of `v`, the first of them on top.
-    fn expand(&self, v: Value, stack: &mut Stack)
-        requires { array_vec_len stack.old + length (uses (G.meaning self.now.graph.now) v.0) < 4097 }
+    fn expand<const CAP: usize>(&self, v: Value, stack: &mut Stack<CAP>)
+        requires { array_vec_len stack.old + length (uses (G.meaning self.now.graph.now) v.0) < CAP }
         ensures { entries stack.new ≡ traced (uses (G.meaning self.now.graph.now) v.0) ++ (Visit v ∷ entries stack.old) }
     {
         stack.push(StackEntry::Visit(v));
@@ -38,6 +38,8 @@ impl<G: FlowGraph> LiveRoot<'_, G> {
     /// Shows `visitor` what the root reaches, each value once and after what it uses, and answers the steps taken.
     ///
     /// The bytes lent are zero at the return, also where the visitor stopped the walk.
+    // No walk takes more steps than 1 + the values + 3 operands of each. A stack is cleared as it is made, so a small graph
+    // has a small one.
     pub(crate) fn walk<V: Visitor>(
         &self,
         bytes: &mut [u8; MARKS],
@@ -46,8 +48,26 @@ impl<G: FlowGraph> LiveRoot<'_, G> {
         ensures ended { Ended (G.meaning self.now.graph.now) self.now.value.0 (λ shown. V.fits visitor.old shown visitor.new) (λ shown. V.stops visitor.old shown visitor.new) result }
         ensures cleared { bytes.new ≡ replicate 1024 0 }
     {
+        if self.graph.num_values() <= 64 {
+            self.walk_over::<V, 257>(bytes, visitor)
+        } else {
+            self.walk_over::<V, 4097>(bytes, visitor)
+        }
+    }
+
+    /// The same, where a stack has place for each step that the walk may take.
+    fn walk_over<V: Visitor, const CAP: usize>(
+        &self,
+        bytes: &mut [u8; MARKS],
+        visitor: &mut V,
+    ) -> Result<u32, V::Stop>
+        requires enough { 4 * length (G.meaning self.now.graph.now) < CAP }
+        requires small { CAP ≤ 4097 }
+        ensures ended { Ended (G.meaning self.now.graph.now) self.now.value.0 (λ shown. V.fits visitor.old shown visitor.new) (λ shown. V.stops visitor.old shown visitor.new) result }
+        ensures cleared { bytes.new ≡ replicate 1024 0 }
+    {
         let mut marks = Marks::new(bytes);
-        let mut stack = Stack::new();
+        let mut stack = Stack::<CAP>::new();
         stack.push(StackEntry::Trace(self.value));
         let mut steps = 0;
         while let Some(entry) = stack.pop() {

@@ -1,7 +1,7 @@
 use Rattle.std.proofs.Common.{refl, rules, ◌∙◌}
 use Rattle.std.proofs.lemmas.Result.{err_from_is_err_and}
 use Rattle.walk.proofs.Turns.{first, visited, stopped, met_again, new, room, done}
-use Rattle.walk.proofs.root.LiveRoot.walk.Goals as goal
+use Rattle.walk.proofs.root.LiveRoot.walk_over.Goals as goal
 
 pub loop-entry-init : goal.loop-entry-init
 loop-entry-init g c = record {
@@ -21,7 +21,7 @@ returns-in_err-show-in-Visit-clause-ended g c =
     rw (p.1, p.2) (stopped _ _ c.in-Some.ensures.items c.in-Visit.is c.loop-entry.invariant.walking (c.in_err-show-in-Visit.ensures c.args.visitor.now))
 
 pub expand-requires : goal.expand-requires
-expand-requires g c = room _ c.in-Some.ensures.items c.in-Trace.is c.loop-entry.invariant.walking c.if-not-is_marked.ensures
+expand-requires g c = (search rules, room _ c.in-Some.ensures.items c.in-Trace.is c.loop-entry.invariant.walking c.if-not-is_marked.ensures _ c.requires.enough)
 
 pub loop-entry-preserved-then-not-is_marked : goal.loop-entry-preserved-then-not-is_marked
 loop-entry-preserved-then-not-is_marked g c = record {

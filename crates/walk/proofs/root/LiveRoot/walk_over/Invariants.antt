@@ -1,6 +1,6 @@
-use Rattle.std.proofs.Common.{◌≡◌, ◌-◌}
+use Rattle.std.proofs.Common.{◌≡◌, ◌+◌, ◌*◌, ◌-◌, length}
 use Rattle.walk.proofs.Turns.{Walking}
-use Rattle.walk.proofs.root.LiveRoot.walk.Given as goal
+use Rattle.walk.proofs.root.LiveRoot.walk_over.Given as goal
 
 abbrev pub invariant-loop-entry : goal.invariant-loop-entry
 invariant-loop-entry g l = record {
@@ -9,4 +9,4 @@ invariant-loop-entry g l = record {
 }
 
 abbrev pub decreases-loop-entry : goal.decreases-loop-entry
-decreases-loop-entry g l = 4097 - l.steps
+decreases-loop-entry g l = 1 + 4 * length (g.G.FlowGraph.meaning l.self.graph.now) - l.steps
