@@ -1,0 +1,4 @@
+pub mod BehindOriginals
+pub mod BehindPins
+pub mod MorePins
+pub mod RedefinedNumbers
