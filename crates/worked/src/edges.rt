@@ -1,20 +1,10 @@
 // The edges that a script would be long for: full tables, and short marks.
-use crate::tell::print_refusal;
+use crate::tell::print_done;
 use calls::NewInst;
 use dfg::DataFlowGraph;
-use ir::{Block, Inst, Opcode, Refusal, Value};
+use ir::{Block, Inst, Opcode, Value};
 use std::alloc::{AllocError, Global};
 use std::io;
-
-/// Prints whether a call was done, or the refusal.
-fn print_done<T: Drop>(rt: &impl Print, name: &str, answer: Result<T, Refusal>) -> io::Result<()> {
-    print!(rt; "{name}:")?;
-    match answer {
-        Ok(_) => print!(rt; " done")?,
-        Err(refusal) => print_refusal(rt, refusal)?,
-    }
-    println!(rt; "")
-}
 
 /// The 64th block, and the 65th.
 pub(crate) fn blocks(rt: &HostRuntime) -> anyhow::Result<()> {

@@ -1,10 +1,11 @@
 #![tactic(auto)]
 
-// Builds the worked graphs, and meets every refusal of every building call at its edge. What the calls answer is
-// printed, one line for each case, and compared with the file `stdout`.
+// Builds the worked graphs, and meets every refusal of every building call and of a pin at its edge. What the calls answer
+// is printed, one line for each case, and compared with the file `stdout`.
 
 mod cases;
 mod edges;
+mod pins;
 mod tell;
 
 fn main(rt: HostRuntime) -> anyhow::Result<()> {
@@ -20,5 +21,7 @@ fn run(rt: &HostRuntime) -> anyhow::Result<()> {
     edges::values(rt)?;
     edges::instructions(rt)?;
     edges::two_results(rt)?;
-    edges::marks(rt)
+    edges::marks(rt)?;
+    pins::through_alias(rt)?;
+    pins::seventeen(rt)
 }

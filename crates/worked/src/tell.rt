@@ -15,13 +15,27 @@ fn print_answer(rt: &impl Print, answer: &Result<Answer, Refusal>) -> io::Result
 }
 
 /// Prints a refusal's number and place.
-pub(crate) fn print_refusal(rt: &impl Print, refusal: Refusal) -> io::Result<()> {
+fn print_refusal(rt: &impl Print, refusal: Refusal) -> io::Result<()> {
     let Refusal { cause, place } = refusal;
     print!(rt; " {}@{place}", u8::from(cause))
 }
 
+/// Prints whether a call was done, or the refusal.
+pub(crate) fn print_done<T: Drop>(
+    rt: &impl Print,
+    name: &str,
+    answer: Result<T, Refusal>,
+) -> io::Result<()> {
+    print!(rt; "{name}:")?;
+    match answer {
+        Ok(_) => print!(rt; " done")?,
+        Err(refusal) => print_refusal(rt, refusal)?,
+    }
+    println!(rt; "")
+}
+
 /// The type number and the original of each value, and the single result of each instruction.
-fn print_graph<G: LaidOut>(rt: &impl Print, graph: &G) -> io::Result<()> {
+pub(crate) fn print_graph<G: LaidOut>(rt: &impl Print, graph: &G) -> io::Result<()> {
     print!(rt; " |")?;
     for value in (0..graph.num_values()).map(Value) {
         let bits = graph.value_type(value).bits();
