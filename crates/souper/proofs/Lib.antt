@@ -1,0 +1,10 @@
+pub mod Agreement
+pub mod Checks
+pub mod Fits
+pub mod Grows
+pub mod Live
+pub mod Places
+pub mod RowRange
+pub mod RowUnfolds
+pub mod Sound
+pub mod WalkRows

@@ -1,0 +1,45 @@
+ghost use Rattle.std.specs.Prelude.{◌≡◌};
+ghost use Rattle.souper.specs.Counted.{is_translated};
+ghost use Rattle.souper.specs.Translation.{form_of};
+
+use ir::{IntCC, Opcode, Word};
+
+/// How an operation is translated.
+#[derive(Clone, Copy, PartialEq, Eq, Debug)]
+pub enum Form {
+    /// Not at all: it becomes a variable.
+    Untranslated,
+    /// A word over the operands, in order.
+    Plain(Word),
+    /// `xor` of the operand with all ones.
+    Inverted,
+    /// `select`, on a condition of width 1.
+    Selected,
+    /// A comparison of width 1, extended by `zext`.
+    Compared(Word),
+}
+
+impl Form {
+    /// The form of an operation: a comparison is decided by its condition, a shift by whether its two operands have one width.
+    pub fn of(opcode: Opcode, cond: IntCC, same_width: bool) -> Form
+        ensures { result ≡ form_of opcode cond same_width }
+    {
+        match opcode {
+            Opcode::Bnot => Form::Inverted,
+            Opcode::Select => Form::Selected,
+            Opcode::Icmp if let Some(word) = cond.word() => Form::Compared(word),
+            Opcode::Ishl | Opcode::Sshr | Opcode::Ushr if !same_width => Form::Untranslated,
+            _ => opcode.word().map_or(Form::Untranslated, Form::Plain),
+        }
+    }
+
+    /// Whether the operation has a translation.
+    pub fn is_translated(self) -> bool
+        ensures { result ≡ is_translated self }
+    {
+        match self {
+            Form::Untranslated => false,
+            Form::Plain(_) | Form::Inverted | Form::Selected | Form::Compared(_) => true,
+        }
+    }
+}

@@ -1,0 +1,39 @@
+use ir::Word;
+
+/// An operand of a row.
+#[derive(Clone, Copy, PartialEq, Eq, Debug)]
+pub enum Operand {
+    /// An earlier row.
+    Row(u32),
+    /// An immediate, read modulo 2 to the width, and the width.
+    Constant(i64, u8),
+    /// The zero of a select's helper, which has no width.
+    Zero,
+}
+
+/// The operands of a row, in order.
+#[derive(Clone, Copy, PartialEq, Eq, Debug)]
+pub enum RowOperands {
+    Empty,
+    One(Operand),
+    Two(Operand, Operand),
+    Three(Operand, Operand, Operand),
+}
+
+/// A row of a left-hand side: a word over its operands.
+#[derive(Clone, Copy, PartialEq, Eq, Debug)]
+pub struct Row {
+    /// The bits of what the row computes.
+    pub width: u8,
+    pub word: Word,
+    pub operands: RowOperands,
+}
+
+impl Row {
+    /// What a table holds where nothing was written: no row, since it has no width.
+    pub const BLANK: Row = Row {
+        width: 0,
+        word: Word::Var,
+        operands: RowOperands::Empty,
+    };
+}
