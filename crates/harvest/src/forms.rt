@@ -1,0 +1,42 @@
+// How the values of a graph are translated.
+ghost use Rattle.std.specs.Prelude.{◌≡◌};
+ghost use Rattle.ir.specs.Entities.{values};
+ghost use Rattle.souper.specs.Counted.{is_counted};
+ghost use Rattle.souper.specs.Translation.{same_widths, def_form, shape};
+
+use flow::{FlowGraph, ValueDef, value_definition};
+use ir::{Operands, Value};
+use souper::Form;
+
+/// Whether the first two operands have one width.
+#[inline(always)]
+fn same_widths<G: FlowGraph>(graph: &G, args: Operands) -> bool
+    ensures { result ≡ same_widths (G.meaning graph.now) (values args) }
+{
+    match args {
+        Operands::Nullary | Operands::Unary(_) => false,
+        Operands::Binary(a, b) | Operands::Ternary(a, b, _) => {
+            graph.value_type(a).bits() == graph.value_type(b).bits()
+        }
+    }
+}
+
+/// How what `def` defines is translated.
+#[inline(always)]
+pub(crate) fn form_of<G: FlowGraph>(graph: &G, def: ValueDef) -> Form
+    ensures { result ≡ def_form (G.meaning graph.now) def }
+{
+    match def {
+        ValueDef::Operation { opcode, cond, args } => {
+            Form::of(opcode, cond, same_widths(graph, args))
+        }
+        ValueDef::Constant(_) | ValueDef::Variable | ValueDef::Deleted => Form::Untranslated,
+    }
+}
+
+/// Whether an operation that has a translation defines `v`.
+pub(crate) fn is_counted<G: FlowGraph>(graph: &G, v: Value) -> bool
+    ensures { result ≡ is_counted (shape (G.meaning graph.now) v.0) }
+{
+    form_of(graph, value_definition(graph, v)).is_translated()
+}
