@@ -1,0 +1,6 @@
+pub mod Zeros
+pub mod Divisions
+pub mod Masks
+pub mod Reverses
+pub mod Saturation
+pub mod Signs
