@@ -1,0 +1,5 @@
+pub mod Answered
+pub mod Answers
+pub mod Evaluating
+pub mod Numbering
+pub mod Operations
