@@ -1,0 +1,4 @@
+pub mod Buffer
+pub mod Checks
+pub mod Text
+pub mod Worked
