@@ -1,0 +1,4 @@
+pub mod Answers
+pub mod Building
+pub mod Candidates
+pub mod Numbers
