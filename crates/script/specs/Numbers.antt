@@ -1,5 +1,6 @@
 -- Decimal numbers, and what goes by one. Assumes nothing.
-use Rattle.std.specs.Prelude.{ℕ, ◌+◌, ◌-◌, ◌*◌, ◌^◌, Bool, cond, ◌&&◌, List, [], ◌∷◌, ℤ, pos, neg_ℤ, Some, None, codes, Option, ◌==◌, nat_le}
+use Rattle.std.specs.Prelude.{ℕ, ◌+◌, ◌-◌, ◌*◌, ◌^◌, Bool, cond, ◌&&◌, List, [], ◌∷◌, ℤ, pos, neg_ℤ, take, drop, Some, None, codes, Option, ◌==◌, nat_le}
+use Rattle.std.specs.List.{position}
 use Rattle.std.specs.Option.{option_map}
 use Rattle.ir.specs.declared.entities.Block.{Block}
 use Rattle.ir.specs.declared.entities.Inst.{Inst}
@@ -58,3 +59,12 @@ immediate_from word (Some digits) = option_map (λ n. neg_ℤ (pos n)) (number (
 
 abbrev pub immediate_of : List ℕ → Option ℤ
 immediate_of word = immediate_from word (behind (codes "-") word)
+
+-- ---- pins
+
+-- what is shown as what: a value, '=' (61) and an immediate
+abbrev pub pin_at : List ℕ → ℕ → Option (Value × ℤ)
+pin_at word at = and_then (value_of (take at word)) (λ v. option_map (λ z. (v, z)) (immediate_of (drop (at + 1) word)))
+
+abbrev pub pin_of : List ℕ → Option (Value × ℤ)
+pin_of word = and_then (position (λ b. b == 61) word) (pin_at word)

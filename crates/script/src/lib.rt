@@ -52,10 +52,13 @@ pub mod laws;
 mod line;
 mod names;
 mod numbers;
+pub mod pin;
 pub mod script;
 pub mod text;
 
 pub use error::ScriptError;
 pub use laws::script_stands;
+pub use numbers::read_value;
+pub use pin::read_pin;
 pub use script::read_script;
 pub use text::line_at;

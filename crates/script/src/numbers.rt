@@ -64,7 +64,7 @@ pub(crate) fn read_inst(word: &[u8]) -> Option<Inst>
 }
 
 /// The value that the word names.
-pub(crate) fn read_value(word: &[u8]) -> Option<Value>
+pub fn read_value(word: &[u8]) -> Option<Value>
     ensures { result ≡ value_of word.now }
 {
     read_entity(word, "v").map(Value)
