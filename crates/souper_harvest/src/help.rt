@@ -4,12 +4,27 @@ use script::line_at;
 use std::io;
 use std::str::from_utf8;
 
-/// The arguments in one line.
-pub(crate) const USAGE: &str = "usage: souper_harvest [FILE | --example | --help]";
+/// The arguments in two lines.
+pub(crate) const USAGE: &str = "\
+usage: souper_harvest [OPTION].. [FILE | - | --image FILE | --example]..
+       souper_harvest --help";
 
 const PURPOSE: &str = "\
-Runs a script of building calls on an empty data-flow graph. The script is read from FILE, or else from standard
-input. With --example, and where standard input is empty, an example is run.
+Harvests candidates for Souper from data-flow graphs, and prints their texts. The graphs come, in order, from
+
+    FILE                 a script of building calls, run on an empty graph
+    -                    the same from standard input, also where nothing else is named
+    --image FILE         an image: the records of a graph
+    --example            a script that is built in, also run where standard input is empty
+
+The options hold for all graphs:
+
+    --function NAME      the name in the headings, f if none is given: up to 64 printable characters, no backtick
+    --pin VALUE=NUMBER   shows an integer variable as a constant, as --pin v0=10; up to 16 times
+    --resolve            shows each operand as its original, the end of its aliases
+    --graph              prints the answers to calls or the verdict on the image, the pins and the graph before the candidates
+    --eval VALUE         prints a value's number and the number on its row, in place of candidates
+    --input VALUE=NUMBER what a variable holds for --eval, 0 if nothing is given; a number below zero is read modulo 2^64
 ";
 
 const FORM: &str = "\
@@ -40,10 +55,16 @@ no call is made.
 ";
 
 const PRINTED: &str = "\
-Each call is printed with its answer: what it made, as block0, v0 or inst0, done where it made nothing, or the
-refusal's number, its place and its meaning. Then the graph is printed, block by block, each instruction with its single
-result and what defines that, or with a word that it has no single result. Last come all other values: variables, other
-names for a value, deleted values, and values that no instruction has as its single result.
+On standard output come the texts of the candidates, one behind the other: a heading, a row to a line, the row of the root, and an
+empty line. On standard error come the calls and pins that were refused, each with the refusal's number, its place and its meaning,
+and last how many instructions were looked at and how many candidates came. A refused image, an unreadable script or wrong
+arguments end the program.
+
+With --graph each call is printed with its answer: what it made, as block0, v0 or inst0, done where it made nothing, or the refusal.
+Of an image the verdict is printed: how many records of each kind it has, or its refusal, whose place is the number of a record, or
+of a value with 9. Then come the pins with their answers, and then the graph, block by block, each instruction with its single
+result and what defines that, or with a word that it has no single result. Last come all other values: variables, other names for
+a value, deleted values, and values that no instruction has as its single result.
 ";
 
 /// Tells how the program is used.

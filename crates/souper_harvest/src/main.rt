@@ -1,51 +1,27 @@
 #![tactic(auto)]
 
-// Runs a script of building calls, and prints what they answer and the graph that they make.
+// Makes graphs from scripts of building calls or from images, and prints their candidates, behind the views that were asked for.
+mod candidate;
 mod example;
 mod help;
-mod input;
+mod number;
+mod options;
 mod report;
-
-use anyhow::anyhow;
-use input::Command;
-use report::{print_answers, print_graph};
-use script::{ScriptError, read_script};
+mod run;
+mod shown;
 
 fn main(rt: HostRuntime) -> anyhow::Result<()> {
-    run(&rt)
+    run_all(&rt)
 }
 
 /// Does what the arguments ask for.
-fn run(rt: &HostRuntime) -> anyhow::Result<()> {
-    match input::read_command(rt)? {
-        Command::Help => Ok(help::print_help(rt)?),
-        Command::Example => run_script(rt, example::EXAMPLE.as_bytes()),
-        Command::File(path) => {
-            let text = input::read_file(rt, path.as_str())?;
-            run_script(rt, text.as_slice())
-        }
-        Command::Input => {
-            let text = input::read_input(rt)?;
-            if text.is_empty() {
-                return run_script(rt, example::EXAMPLE.as_bytes());
-            }
-            run_script(rt, text.as_slice())
-        }
+fn run_all(rt: &HostRuntime) -> anyhow::Result<()> {
+    let options = options::read_options(rt)?;
+    if options.help {
+        return Ok(help::print_help(rt)?);
     }
-}
-
-/// Reads a script, makes its calls on an empty graph, and prints the answers and the graph.
-fn run_script(rt: &HostRuntime, text: &[u8]) -> anyhow::Result<()> {
-    let calls = match read_script(rt.alloc(), text) {
-        Ok(calls) => calls,
-        Err(ScriptError::Memory) => return Err(anyhow!("memory ran out")),
-        Err(ScriptError::Line(number)) => {
-            help::print_unreadable(rt, text, number)?;
-            return Err(anyhow!("the script cannot be read"));
-        }
-    };
-    let built = building::build(rt.alloc(), calls.as_slice())?;
-    print_answers(rt, calls.as_slice(), built.answers.as_slice())?;
-    print_graph(rt, &built.graph)?;
+    for input in options.inputs.iter() {
+        run::run(rt, input, &options)?;
+    }
     Ok(())
 }

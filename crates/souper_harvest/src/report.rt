@@ -1,4 +1,5 @@
-// Prints what the calls answered, and the graph that they made.
+// What calls and pins answered, the verdict on an image, and a graph. It is printed where it was asked for, and else told on standard
+// error where something was refused.
 use calls::{Answer, BuildCall};
 use flow::{LaidOut, ValueDef};
 use ir::{Block, Inst, Refusal, Value};
@@ -17,6 +18,53 @@ pub(crate) fn print_answers(
         }
     }
     Ok(())
+}
+
+/// Tells which calls were refused, and why.
+pub(crate) fn tell_refused(
+    rt: &impl Eprint,
+    calls: &[BuildCall],
+    answers: &[Result<Answer, Refusal>],
+) -> io::Result<()> {
+    for (call, answer) in calls.iter().zip(answers.iter()) {
+        if let Err(refusal) = answer {
+            eprintln!(rt; "{call}: {refusal}")?;
+        }
+    }
+    Ok(())
+}
+
+/// Prints how many records of each kind an accepted image has.
+pub(crate) fn print_accepted<G: LaidOut>(rt: &impl Print, image: &G) -> io::Result<()> {
+    let values = image.num_values();
+    let insts = image.num_insts();
+    println!(rt; "accepted: {values} value records, {insts} instruction records")
+}
+
+/// Prints a pin with its answer.
+pub(crate) fn print_pin(
+    rt: &impl Print,
+    value: Value,
+    imm: i64,
+    answer: Result<(), Refusal>,
+) -> io::Result<()> {
+    match answer {
+        Ok(()) => println!(rt; "pin {value}={imm}: done"),
+        Err(refusal) => println!(rt; "pin {value}={imm}: {refusal}"),
+    }
+}
+
+/// Tells that a pin was refused, if it was.
+pub(crate) fn tell_pin(
+    rt: &impl Eprint,
+    value: Value,
+    imm: i64,
+    answer: Result<(), Refusal>,
+) -> io::Result<()> {
+    match answer {
+        Ok(()) => Ok(()),
+        Err(refusal) => eprintln!(rt; "pin {value}={imm}: {refusal}"),
+    }
 }
 
 /// Prints a graph in layout order: its blocks with their instructions, and then all other values.
