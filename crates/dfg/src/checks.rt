@@ -11,7 +11,7 @@ ghost use Rattle.dfg.specs.Held.{held};
 use crate::decode::{first_type, results_from, types_known};
 use crate::tables::Tables;
 use calls::NewInst;
-use ir::{Cause, IntCC, Opcode, Operands, Refusal, Value, ensure};
+use ir::{Cause, IntCC, Opcode, Operands, Refusal, Value, ensure, ensure_length};
 use rows::{InstructionData, ReadRows};
 
 /// Whether an instruction of the opcode may have so many operands and results.
@@ -85,12 +85,7 @@ impl Tables {
         )?;
         ensure(!self.is_attached(dest), Cause::Attached)?;
         ensure(original != dest, Cause::ResolvesToDestination)?;
-        if marks < 1024 {
-            return Err(Refusal {
-                cause: Cause::TooShort,
-                place: 1024,
-            });
-        }
+        ensure_length(marks, 1024)?;
         Ok(original)
     }
 }

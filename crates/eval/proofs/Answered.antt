@@ -2,20 +2,21 @@
 use Rattle.std.proofs.Common.{◌≡◌, ℕ, zero, suc, ◌+◌, ◌<◌, ◌≤◌, Bool, true, false, List, [], ◌∷◌, ◌++◌, get_or, map, append_assoc, length, not, find, is_none, is_some, unwrap_or, option_map, Some, None, Ok, Err, Option, Result, sym, refl, ap, ◌∙◌, subst, ⊎_elim, arith}
 use Rattle.std.specs.List.{range_with_len}
 use Rattle.std.proofs.lemmas.Bool.{both_ways, cases_Bool, cond-true, cond-false, or_right, or_cases, eqb-true, cases_eq}
-use Rattle.ir.specs.Entities.{not_live, values}
+use Rattle.ir.specs.Entities.{not_live, values, too_few}
 use Rattle.ir.specs.Operations.{compute}
-use Rattle.ir.specs.Refusals.{answer_unless, because, first, or_else}
+use Rattle.ir.specs.Refusals.{answer_unless, because, first}
 use Rattle.ir.specs.declared.refusal.Refusal.{Refusal}
 use Rattle.ir.specs.declared.refusal.Cause.TheVariants.{NotInteger, InputTooWide}
 use Rattle.flow.specs.Meaning.{Flow, here, node, def_of, live, present, used, has, width_of}
 use Rattle.flow.specs.Number.{Traps, def_number, number_of}
-use Rattle.flow.specs.Rounds.{and_then, all_of}
+use Rattle.ir.specs.Options.{and_then, or_else}
+use Rattle.flow.specs.Rounds.{all_of}
 use Rattle.flow.specs.Walk.{Topological, walk}
 use Rattle.flow.specs.declared.definition.ValueDef.{ValueDef}
 use Rattle.flow.specs.declared.definition.ValueDef.TheVariants.{Constant, Operation, Variable, Deleted}
 use Rattle.flow.proofs.Among.{has_here, has_push}
 use Rattle.flow.proofs.Places.{topological_left, topological_operands, walk_topological}
-use Rattle.flow.proofs.Sequences.{none_is_no_some, some_injective}
+use Rattle.ir.proofs.Options.{none_is_no_some, some_injective}
 use Rattle.flow.proofs.Unfolds.{number_unfolds}
 use Rattle.flow.proofs.Walks.{walk_is_post_order}
 use Rattle.souper.specs.Check.{broken_at, first_bad}
@@ -24,7 +25,7 @@ use Rattle.eval.specs.Known.{at}
 use Rattle.eval.specs.RowAnswer.{first_undefined, unasked_row, undefined, undefined_at, unfit}
 use Rattle.eval.specs.Theorems.{AnsweredNumbers, AnsweredRowNumbers, AnsweredTraps, AnsweredUndefined}
 use Rattle.eval.proofs.Answers.{alive_if_asked}
-use Rattle.eval.specs.ValueAnswer.{first_trap, inputs_fit, too_few, too_wide, trapped, trapped_at, unasked}
+use Rattle.eval.specs.ValueAnswer.{first_trap, inputs_fit, too_wide, trapped, trapped_at, unasked}
 
 -- ---- answers and refusals
 

@@ -2,7 +2,8 @@
 use Rattle.std.proofs.Common.{◌≡◌, ℕ, Bool, true, false, cond, not, List, ◌++◌, drop, replicate, Some, None, Ok, Err, Option, Result, refl, ap}
 use lib.ListN.{length-replicate}
 use Rattle.std.proofs.lemmas.List.{drop_at}
-use Rattle.ir.specs.Refusals.{answer_unless, or_else}
+use Rattle.ir.specs.Options.{or_else}
+use Rattle.ir.specs.Refusals.{answer_unless}
 use Rattle.ir.specs.declared.refusal.Refusal.{Refusal}
 use Rattle.flow.specs.Meaning.{Flow, live}
 use Rattle.eval.specs.ValueAnswer.{unasked}

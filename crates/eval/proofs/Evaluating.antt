@@ -11,7 +11,8 @@ use Rattle.ir.specs.declared.entities.Value.{Value}
 use Rattle.ir.specs.declared.refusal.Refusal.{Refusal}
 use Rattle.flow.specs.Meaning.{Flow, Lawful, Node, node, width_of, def_of, used, live, has, here}
 use Rattle.flow.specs.Number.{def_number, number_of}
-use Rattle.flow.specs.Rounds.{and_then, all_of}
+use Rattle.ir.specs.Options.{and_then}
+use Rattle.flow.specs.Rounds.{all_of}
 use Rattle.flow.specs.Walk.{Topological, walk}
 use Rattle.flow.specs.declared.definition.ValueDef.{ValueDef}
 use Rattle.flow.specs.declared.definition.ValueDef.TheVariants.{Constant, Operation, Variable, Deleted}

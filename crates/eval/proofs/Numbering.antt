@@ -5,7 +5,7 @@ use Rattle.std.proofs.lemmas.List.{get_or-set_same, get_or-set_other}
 use Rattle.std.proofs.lemmas.Bool.{cases_eq}
 use Rattle.ir.specs.declared.words.Word.{Word}
 use Rattle.ir.specs.declared.words.Word.TheVariants.{Var, Add, Mul, Udiv, Sdiv, Urem, Srem, And, Or, Xor, Shl, Ashr, Lshr, Select, Zext, Sext, Eq, Ne, Slt, Sle, Ult, Ule, Ctpop, Bitreverse, Ctlz, Cttz, SaddSat, SsubSat, UsubSat}
-use Rattle.flow.specs.Rounds.{and_then}
+use Rattle.ir.specs.Options.{and_then}
 use Rattle.souper.specs.Rows.{first_width, listed, operand_number, operand_numbers, operand_width, row_at, row_number, row_result}
 use Rattle.souper.specs.Widths.{AllEarlier, Earlier, HasWidth, KindFits, WidthsPass}
 use Rattle.souper.specs.Words.{apply, kind_of}

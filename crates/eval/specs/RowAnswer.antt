@@ -1,8 +1,9 @@
 -- What a question for the number on a row is answered. Assumes nothing.
 use Rattle.std.specs.Prelude.{ℕ, ◌+◌, ◌^◌, Bool, true, not, ◌&&◌, List, [], ◌∷◌, length, take, zip, find, is_none, unwrap_or, option_map, Option, Result, nat_lt}
 use Rattle.std.specs.List.{list_all, range_with_len}
-use Rattle.ir.specs.Entities.{not_live}
-use Rattle.ir.specs.Refusals.{because, first, or_else, answer_unless}
+use Rattle.ir.specs.Entities.{not_live, too_few}
+use Rattle.ir.specs.Options.{or_else}
+use Rattle.ir.specs.Refusals.{because, first, answer_unless}
 use Rattle.ir.specs.declared.refusal.Refusal.{Refusal}
 use Rattle.ir.specs.declared.refusal.Cause.TheVariants.{InputTooWide, Undefined}
 use Rattle.souper.specs.Check.{broken_at, first_bad}
@@ -12,7 +13,6 @@ use Rattle.souper.specs.declared.kind.Kind.{Kind}
 use Rattle.souper.specs.declared.kind.Kind.TheVariants as kind
 use Rattle.souper.specs.declared.rows.Row.{Row}
 use Rattle.eval.specs.Known.{at}
-use Rattle.eval.specs.ValueAnswer.{too_few}
 
 -- the input of a variable of width w fits it; no other kind of row reads an input
 abbrev pub kind_input_fits : Kind → ℕ → ℕ → Bool

@@ -1,8 +1,9 @@
 -- What a question for the number of a value is answered. Assumes nothing.
-use Rattle.std.specs.Prelude.{ℕ, ◌^◌, Bool, true, not, List, [], ◌∷◌, length, min, find, is_none, unwrap_or, option_map, Option, Result, nat_lt, slice_index}
+use Rattle.std.specs.Prelude.{ℕ, ◌^◌, Bool, true, not, List, [], ◌∷◌, length, find, is_none, unwrap_or, option_map, Option, Result, nat_lt, slice_index}
 use Rattle.std.specs.List.{list_all}
-use Rattle.ir.specs.Entities.{not_live, too_short}
-use Rattle.ir.specs.Refusals.{because, first, or_else, answer_unless}
+use Rattle.ir.specs.Entities.{not_live, too_few}
+use Rattle.ir.specs.Options.{or_else}
+use Rattle.ir.specs.Refusals.{because, first, answer_unless}
 use Rattle.ir.specs.Widths.{is_integer}
 use Rattle.ir.specs.declared.refusal.Refusal.{Refusal}
 use Rattle.ir.specs.declared.refusal.Cause.TheVariants.{NotInteger, InputTooWide, Trapped}
@@ -36,10 +37,6 @@ first_trap g inputs vs = find (λ v. is_none (number_of g (at inputs) v)) vs
 
 abbrev pub trapped_at : ℕ → Refusal
 trapped_at v = record { cause = Trapped; place = v }
-
--- so much is needed, as far as 32 bits go
-abbrev pub too_few : ℕ → Refusal
-too_few n = too_short (min n 4294967295)
 
 -- what stands against a walk of v, with room for so many marks
 abbrev pub unasked : Flow → List ℕ → ℕ → ℕ → Option Refusal

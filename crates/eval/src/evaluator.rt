@@ -2,7 +2,8 @@ ghost use Rattle.std.specs.Prelude.{◌≡◌, ◌<◌, ◌≤◌, ◌⊎◌, ma
 ghost use Rattle.ir.specs.Entities.{arg_count, values};
 ghost use Rattle.ir.specs.Operations.{compute};
 ghost use Rattle.flow.specs.Meaning.{width_of};
-ghost use Rattle.flow.specs.Rounds.{all_of, and_then};
+ghost use Rattle.ir.specs.Options.{and_then};
+ghost use Rattle.flow.specs.Rounds.{all_of};
 ghost use Rattle.eval.specs.Known.{known, value_from};
 ghost use Rattle.eval.specs.Shown.{Evaluated, TrapsAt, evaluated_none};
 

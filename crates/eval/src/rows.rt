@@ -5,9 +5,9 @@ ghost use Rattle.souper.specs.Widths.{WidthsPass};
 ghost use Rattle.eval.specs.Known.{perhaps};
 ghost use Rattle.eval.specs.RowAnswer.{number_of_defined, row_answer, row_inputs_fit, row_input_fits, unasked_row, undefined};
 
-use crate::checks::{ensure_length, fits};
+use crate::checks::fits;
 use crate::row_numbers::{MAX_ROWS, number_on, numbers_on};
-use ir::{Cause, Refusal, ensure};
+use ir::{Cause, Refusal, ensure, ensure_length};
 use souper::{Kind, Row, check_widths};
 
 /// Whether the input fits that a row reads, if it reads one.

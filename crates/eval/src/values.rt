@@ -3,12 +3,11 @@ ghost use Rattle.ir.specs.Refusals.{answer_unless};
 ghost use Rattle.flow.specs.Meaning.{live};
 ghost use Rattle.eval.specs.ValueAnswer.{unasked, too_wide, trapped, number_of_untrapped, value_answer, refusal_of};
 
-use crate::checks::ensure_length;
 use crate::evaluator::Evaluator;
 use crate::inputs::InputChecker;
 use arith::number_at;
 use flow::{FlowGraph, is_live};
-use ir::{Cause, Refusal, Value, ensure};
+use ir::{Cause, Refusal, Value, ensure, ensure_length};
 use walk::{MARKS, WalkError, post_order_dfs};
 
 /// What can be said before a walk: whether there are such a value, room and inputs enough, and an integer.

@@ -1,6 +1,6 @@
 -- Lists of numbers: membership, distinct lists, and how long one can be. Assumes nothing.
-use Rattle.std.proofs.Common.{◌≡◌, ℕ, zero, suc, ◌<◌, ◌≤◌, Bool, true, false, cond, ◌||◌, eqb, ◌⊎◌, List, [], ◌∷◌, ◌++◌, map, length, sym, refl, ap, ◌∙◌, inl, inr, ⊎_elim, arith}
-use Rattle.std.specs.List.{AllByRecursion as All}
+use Rattle.std.proofs.Common.{◌≡◌, ℕ, zero, suc, ◌<◌, ◌≤◌, Bool, true, false, cond, ◌||◌, eqb, ◌⊎◌, List, [], ◌∷◌, ◌++◌, map, length, get_or, sym, refl, ap, ◌∙◌, inl, inr, ⊎_elim, arith}
+use Rattle.std.specs.List.{AllByRecursion as All, list_any}
 use Rattle.std.proofs.lemmas.Bool.{cases_Bool, both_ways, eqb-true, eqb-false, eq-eqb, ne_eqb, or_cases, or_parts, or_from, or_left, or_right}
 use Rattle.flow.specs.Meaning.{has}
 use Rattle.flow.specs.Walk.{Distinct}
@@ -48,6 +48,29 @@ has_before_map f (x ∷ vs) w h = ⊎_elim
     (λ e. let rest = has_before_map f vs w e in (rest.0, or_right _ _ rest.1, rest.2))
     (or_cases _ _ h)
 
+pub has_get_or : (vs : List ℕ) (k : ℕ) → k < length vs → has vs (get_or vs k 0) ≡ true
+has_get_or [] k lt = absurd (omega arith)
+has_get_or (v ∷ vs) zero lt = has_here v vs
+has_get_or (v ∷ vs) (suc k) lt = or_right _ _ (has_get_or vs k (omega arith))
+
+-- ---- a test of what a list has
+
+pub any_some : (test : ℕ → Bool) (vs : List ℕ) → list_any test vs ≡ true → (v : ℕ) × (has vs v ≡ true) × (test v ≡ true)
+any_some test [] e = absurd (both_ways false refl e)
+any_some test (v ∷ vs) e =
+    ⊎_elim (λ h. (v, has_here v vs, h)) (λ h. let s = any_some test vs h in (s.0, or_right _ _ s.1, s.2)) (or_cases _ _ e)
+
+pub some_any : (test : ℕ → Bool) (vs : List ℕ) (v : ℕ) → has vs v ≡ true → test v ≡ true → list_any test vs ≡ true
+some_any test [] v h t = absurd (both_ways false refl h)
+some_any test (u ∷ vs) v h t =
+    ⊎_elim (λ e. or_left (test u) _ (ap test (eqb-true u v e) ∙ t)) (λ e. or_right (test u) _ (some_any test vs v e t)) (or_cases _ _ h)
+
+-- none passes where a list has it and the test finds none
+pub none_among : (test : ℕ → Bool) (vs : List ℕ) (v : ℕ) → has vs v ≡ true → list_any test vs ≡ false → test v ≡ false
+none_among test vs v h none = ⊎_elim (λ t. absurd (both_ways _ none (some_any test vs v h t))) (λ e. e) (cases_Bool (test v))
+
+-- ---- functions of what a list has
+
 -- f and h agree on a list if they do on what it has
 pub map_among : {A : Type 0} (f h : ℕ → A) (vs : List ℕ) → ((v : ℕ) → has vs v ≡ true → f v ≡ h v) → map f vs ≡ map h vs
 map_among f h [] same = refl
@@ -57,6 +80,8 @@ map_among f h (v ∷ vs) same = λ i. same v (has_here v vs) i ∷ map_among f h
 pub all_among : (P : ℕ → Type 0) (vs : List ℕ) → ((v : ℕ) → has vs v ≡ true → P v) → All P vs
 all_among P [] h = tt
 all_among P (v ∷ vs) h = (h v (has_here v vs), all_among P vs (λ w m. h w (or_right _ _ m)))
+
+-- ---- distinct lists
 
 pub distinct_push : (vs : List ℕ) (v : ℕ) → Distinct vs → has vs v ≡ false → Distinct (vs ++ (v ∷ []))
 distinct_push [] v d h = (refl, tt)

@@ -1,6 +1,5 @@
 -- Paths and loops by what values use, whatever tells that. Assumes nothing.
 use Rattle.std.proofs.Common.{◌≡◌, ℕ, true, List, sym, refl, ap, ◌∙◌, subst}
-use mathlib.Core.Path.{fun_ext}
 use Rattle.flow.specs.Loops.{Path, one, more, Loopless}
 use Rattle.flow.specs.Meaning.{Flow, Reach, here, through, NoLoop, uses, has}
 
@@ -33,23 +32,3 @@ from_same {v = v} u e (more {a = b} h r) = more (uses_in_lem _ _ b (sym e) h) r
 pub joined : {args : ℕ → List ℕ} {u v w : ℕ} → Path args u v → Path args v w → Path args u w
 joined (one h) s = more h s
 joined (more h r) s = more h (joined r s)
-
-pub same_loop : (args args' : ℕ → List ℕ) → ((v : ℕ) → args' v ≡ args v) → Loopless args → Loopless args'
-same_loop args args' h = subst Loopless (sym (fun_ext h))
-
--- ---- operands become their originals
-
-module _ (args args' : ℕ → List ℕ) (f : ℕ → ℕ)
-    (came : (v b : ℕ) → has (args' v) b ≡ true → (a : ℕ) × (has (args v) a ≡ true) × (f a ≡ b))
-    (shared : (a : ℕ) → args (f a) ≡ args a) where
-  unresolved : {v w : ℕ} → Path args' v w → (a : ℕ) × Path args v a × (f a ≡ w)
-  unresolved {v} {w} (one h) = let c = came v w h in (c.0, one c.1, c.2)
-  unresolved {v} {w} (more {a = b} h r) =
-      let c = came v b h in
-      let s = unresolved r in
-      (s.0, more c.1 (from_same c.0 (sym (shared c.0) ∙ ap args c.2) s.1), s.2)
-
-  pub resolved_loop : Loopless args → Loopless args'
-  resolved_loop none v r =
-      let s = unresolved r in
-      none s.0 (from_same s.0 (sym (shared s.0) ∙ ap args s.2) s.1)

@@ -4,12 +4,13 @@ use Rattle.std.proofs.lemmas.Bool.{both_ways, eqb-true, or_cases, or_right}
 use Rattle.ir.specs.Entities.{values}
 use Rattle.flow.specs.Meaning.{Flow, Lawful, Node, Reach, here, through, node, def_of, present, live, used, has}
 use Rattle.flow.specs.Number.{def_number, number_of, Traps, NoneWhereTrapped}
-use Rattle.flow.specs.Rounds.{and_then, all_of}
+use Rattle.ir.specs.Options.{and_then}
+use Rattle.flow.specs.Rounds.{all_of}
 use Rattle.flow.specs.declared.definition.ValueDef.{ValueDef}
 use Rattle.flow.specs.declared.definition.ValueDef.TheVariants.{Constant, Operation, Variable, Deleted}
 use Rattle.flow.proofs.Among.{has_here}
 use Rattle.flow.proofs.Paths.{by_uses}
-use Rattle.flow.proofs.Sequences.{none_is_no_some}
+use Rattle.ir.proofs.Options.{none_is_no_some}
 use Rattle.flow.proofs.Unfolds.{number_unfolds}
 
 some_or_none : {A : Type 0} (x : Option A) → ((a : A) × (x ≡ Some a)) ⊎ (x ≡ None)

@@ -7,7 +7,8 @@ use Rattle.ir.specs.Operations.{compute}
 use Rattle.ir.specs.declared.condcodes.IntCC.{IntCC}
 use Rattle.ir.specs.declared.instructions.Operands.{Operands}
 use Rattle.ir.specs.declared.opcodes.Opcode.{Opcode}
-use Rattle.flow.specs.Rounds.{and_then, all_of, Step, rounds}
+use Rattle.ir.specs.Options.{and_then}
+use Rattle.flow.specs.Rounds.{all_of, Step, rounds}
 use Rattle.flow.specs.Meaning.{Flow, Lawful, Node, Reach, node, width_of, original_of, def_of, live}
 use Rattle.flow.specs.declared.definition.ValueDef.{ValueDef}
 use Rattle.flow.specs.declared.definition.ValueDef.TheVariants.{Constant, Operation, Variable, Deleted}

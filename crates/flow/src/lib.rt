@@ -2,6 +2,9 @@
 //!
 //! Start at `specs/Meaning.antt`, which says what a graph means and which laws it keeps, and at `graph.rt` and `layout.rt`, the
 //! questions that a graph answers.
+//!
+//! Proofs: the walk (`Walks`, what adds up over it in `Steps`, its places in `Places`), numbers (`Rounds`, `Unfolds`, `Range`, `Traps`),
+//! paths and loops (`Paths`, `Loops`), layout order (`Orders`), and laws of lists (`Among`, `Sequences`).
 #![tactic(auto)]
 
 ghost use Rattle.flow.specs.Layout.{LayoutOrder};

@@ -8,11 +8,11 @@ use Rattle.ir.specs.Widths.{is_integer}
 use Rattle.ir.specs.declared.entities.Value.{Value}
 use Rattle.flow.specs.Layout.{Layout, LawfulLayout, InstRow, inst_at, order_of}
 use Rattle.flow.specs.Meaning.{Flow, Lawful, has, width_of}
-use Rattle.flow.specs.Rounds.{and_then}
+use Rattle.ir.specs.Options.{and_then}
 use Rattle.flow.specs.Walk.{walk, Distinct}
 use Rattle.flow.proofs.Among.{has_here}
 use Rattle.flow.proofs.Orders.{layout_order}
-use Rattle.flow.proofs.Sequences.{none_is_no_some, some_injective}
+use Rattle.ir.proofs.Options.{none_is_no_some, some_injective}
 use Rattle.flow.proofs.Steps.{sum_among}
 use Rattle.flow.proofs.Walks.{walk_is_post_order}
 use Rattle.souper.specs.Counted.{counted, is_counted}

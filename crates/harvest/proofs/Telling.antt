@@ -1,10 +1,11 @@
 -- What the operands of a value tell of what it reaches. Assumes nothing.
-use Rattle.std.proofs.Common.{◌≡◌, ℕ, ◌+◌, ◌≤◌, Bool, true, false, ◌⊎◌, List, [], ◌∷◌, Err, sym, refl, ap, ◌∙◌, subst, inl, inr, ⊎_elim, arith}
+use Rattle.std.proofs.Common.{◌≡◌, ℕ, ◌+◌, ◌≤◌, true, false, ◌⊎◌, List, [], ◌∷◌, Err, sym, refl, ap, ◌∙◌, subst, inl, inr, ⊎_elim, arith}
 use Rattle.std.specs.List.{list_any}
-use Rattle.std.proofs.lemmas.Bool.{both_ways, cases_Bool, eqb-true, le-leb, leb-true, lt-leb, cases_lt, or_cases, or_parts}
+use Rattle.std.proofs.lemmas.Bool.{both_ways, cases_Bool, le-leb, leb-true, lt-leb, cases_lt, or_cases}
 use Rattle.ir.specs.Bitvectors.{truth}
 use Rattle.flow.specs.Meaning.{Flow, Lawful, Reach, here, through, def_of, has, live, present, used, uses}
 use Rattle.flow.specs.Walk.{walk}
+use Rattle.flow.proofs.Among.{none_among}
 use Rattle.flow.proofs.Walks.{walk_is_post_order}
 use Rattle.flow.specs.declared.definition.ValueDef.{ValueDef}
 use Rattle.flow.specs.declared.definition.ValueDef.TheVariants.{Constant, Operation, Variable, Deleted}
@@ -15,13 +16,6 @@ use Rattle.souper.specs.Counted.{counted, is_counted}
 use Rattle.souper.specs.Translation.{shape, shape_of}
 use Rattle.harvest.specs.Roots.{ReachesTwo, is_operation, reaches_two}
 use Rattle.harvest.proofs.Candidates.{a_counted, reached_two, two_reached}
-
--- none passes where a list has it and the test finds none
-none_among : (test : ℕ → Bool) (vs : List ℕ) (w : ℕ) → has vs w ≡ true → list_any test vs ≡ false → test w ≡ false
-none_among test [] w h none = absurd (both_ways false refl h)
-none_among test (v ∷ vs) w h none =
-    let n = or_parts _ _ none in
-    ⊎_elim (λ e. subst (λ x. test x ≡ false) (eqb-true v w e) n.0) (λ e. none_among test vs w e n.1) (or_cases _ _ h)
 
 -- what is no operation uses nothing and is not counted
 lone : (g : Flow) (def : ValueDef) → is_operation def ≡ false → (used def ≡ []) × (is_counted (shape_of g def) ≡ false)

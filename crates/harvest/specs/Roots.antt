@@ -6,7 +6,7 @@ use Rattle.ir.specs.Widths.{is_integer}
 use Rattle.ir.specs.declared.entities.Value.{Value}
 use Rattle.flow.specs.Layout.{Layout, InstRow, in_order, inst_at, onward}
 use Rattle.flow.specs.Meaning.{Flow, Lawful, Reach, width_of}
-use Rattle.flow.specs.Rounds.{and_then}
+use Rattle.ir.specs.Options.{and_then}
 use Rattle.flow.specs.Walk.{walk}
 use Rattle.flow.specs.declared.definition.ValueDef.{ValueDef}
 use Rattle.flow.specs.declared.definition.ValueDef.TheVariants.{Constant, Operation, Variable, Deleted}

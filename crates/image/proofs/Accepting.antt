@@ -3,7 +3,8 @@ use Rattle.std.proofs.Common.{◌≡◌, ℕ, Decides, List, is_ok, Some, None, 
 use Rattle.std.proofs.lemmas.Bool.{false≢true}
 use Rattle.ir.proofs.Faults.{none_found}
 use Rattle.ir.proofs.OneToOne.{cause_numbers}
-use Rattle.ir.specs.Refusals.{or_else}
+use Rattle.ir.proofs.Options.{neither}
+use Rattle.ir.specs.Options.{or_else}
 use Rattle.ir.specs.declared.refusal.Cause.{Cause}
 use Rattle.ir.specs.declared.refusal.Refusal.{Refusal}
 use Rattle.flow.specs.Meaning.{NoLoop}
@@ -27,11 +28,7 @@ pub settled_round : (p : Rows) → Settled p.values → NoLoop (flow p) → Noth
 settled_round p settled loopless v (inl c) = (settled_without_circles p.values).0 settled v c
 settled_round p settled loopless v (inr (w, h, r)) = loopless v w h r
 
--- ---- one refusal or another
-
-neither : (a b : Option Refusal) → or_else a b ≡ None → (a ≡ None) × (b ≡ None)
-neither None b e = (refl, e)
-neither (Some why) b e = let z : ◌≡◌ {A = ℕ} 0 1 = cc in absurd (omega arith)
+-- ---- widths that fit are told clean
 
 widths_clean : (p : Rows) → ValuesFit p → widths_refusal p ≡ None
 unfolding widths_refusal row_fault

@@ -1,6 +1,7 @@
 -- What the answers of the stages make of the verdict: of the check of records, then of widths, then of what goes round. Assumes nothing.
 use Rattle.std.proofs.Common.{◌≡◌, ℕ, ◌≤◌, List, Some, None, Ok, Err, sym, refl, ap, ◌∙◌, subst}
-use Rattle.ir.specs.Refusals.{answer_unless, or_else}
+use Rattle.ir.specs.Options.{or_else}
+use Rattle.ir.specs.Refusals.{answer_unless}
 use Rattle.ir.specs.declared.refusal.Refusal.{Refusal}
 use Rattle.records.specs.Faults.{counts_of, records_refusal}
 use Rattle.records.specs.RowsOf.{rows_of}

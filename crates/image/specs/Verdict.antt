@@ -2,7 +2,8 @@
 use Rattle.std.specs.Prelude.{◌≡◌, ℕ, ◌≤◌, Bool, cond, not, ◌⊎◌, List, [], ◌∷◌, length, Some, None, Ok, Err, Option, Result, ◌==◌}
 use Rattle.ir.specs.Codes.{cause_number, type_bits}
 use Rattle.ir.specs.Constraints.{constraints_of, widths_fit, immediate_fits}
-use Rattle.ir.specs.Refusals.{first, first_fault, or_else}
+use Rattle.ir.specs.Options.{or_else}
+use Rattle.ir.specs.Refusals.{first, first_fault}
 use Rattle.ir.specs.declared.refusal.Cause.{Cause}
 use Rattle.ir.specs.declared.refusal.Cause.TheVariants.{Widths, Immediate}
 use Rattle.ir.specs.declared.refusal.Refusal.{Refusal}

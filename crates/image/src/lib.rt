@@ -7,6 +7,9 @@
 //!
 //! `reading.rt` makes an `Image` of bytes, and `queries.rt` answers the questions of `flow::FlowGraph` and `flow::LaidOut` of it
 //! from the bytes, with nothing copied. `specs/Graph.antt` says which graph bytes mean.
+//!
+//! Proofs: which bytes are accepted (`Accepting`, `Standing`), stage by stage (`Stages`): records (`Fitting`, `Held`, `Naming`) and what goes
+//! round (`GoingRound`).
 #![tactic(auto)]
 
 mod blocks;

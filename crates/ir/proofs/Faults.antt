@@ -2,7 +2,8 @@
 use Rattle.std.proofs.Common.{◌≡◌, ℕ, zero, suc, ◌+◌, ◌-◌, ◌<◌, ◌≤◌, Some, None, Option, sym, refl, ap, ◌∙◌, inl, inr, add-one, arith}
 use Rattle.std.proofs.lemmas.Bool.{cases_lt}
 use Rattle.std.specs.Option.{option_map}
-use Rattle.ir.specs.Refusals.{or_else, first_fault}
+use Rattle.ir.specs.Options.{or_else}
+use Rattle.ir.specs.Refusals.{first_fault}
 use Rattle.ir.specs.declared.refusal.Cause.{Cause}
 
 module _ (fault : ℕ → Option Cause) where

@@ -4,5 +4,6 @@ pub mod Faults
 pub mod Immediates
 pub mod Limits
 pub mod OneToOne
+pub mod Options
 pub mod Range
 pub mod Signatures

@@ -8,9 +8,7 @@ use Rattle.ir.specs.declared.refusal.Cause.TheVariants.{NotLive, Unknown, WrongC
 use Rattle.ir.specs.declared.types.Type as T
 use Rattle.ir.specs.declared.types.Type.TheVariants.{Invalid, Other, I8, I16, I32, I64}
 use Rattle.ir.proofs.Decoding.{opcode_code_lem, intcc_code_lem}
-
-no_some : {A : Type 0} (x : A) → None ≡ Some x → ⊥
-no_some x e = let z : ◌≡◌ {A = ℕ} 0 1 = cc in omega arith
+use Rattle.ir.proofs.Options.{none_is_no_some}
 
 -- a table whose entries, from number n on, have their own places as codes
 abbrev Coded : {A : Type 0} → (A → ℕ) → ℕ → List A → Type 0
@@ -18,7 +16,7 @@ Coded code n [] = Unit {0}
 Coded code n (x ∷ xs) = (code x ≡ n) × Coded code (suc n) xs
 
 at_place : {A : Type 0} (code : A → ℕ) (n : ℕ) (xs : List A) → Coded code n xs → (k : ℕ) (x : A) → slice_get xs k ≡ Some x → code x ≡ k + n
-at_place code n [] c k x e = absurd (no_some x e)
+at_place code n [] c k x e = none_is_no_some x e
 at_place code n (y ∷ xs) c zero x e = let same : y ≡ x = cc in ap code (sym same) ∙ c.0 ∙ omega arith
 at_place code n (y ∷ xs) c (suc k) x e = omega (arith, at_place code (suc n) xs c.1 k x e)
 
@@ -55,7 +53,7 @@ type_forth n t =
     (tested n 8 I8 t _ (eqb n 8) refl refl
     (tested n 16 I16 t _ (eqb n 16) refl refl
     (tested n 32 I32 t _ (eqb n 32) refl refl
-    (tested n 64 I64 t None (eqb n 64) refl refl (λ e. absurd (no_some t e))))))
+    (tested n 64 I64 t None (eqb n 64) refl refl (λ e. none_is_no_some t e)))))
 
 pub type_bits_lem : TypeBits
 type_bits_lem = record { back = type_back; forth = type_forth }

@@ -1,6 +1,6 @@
 -- Values by their numbers, operands, and the commonest refusals.
 -- Assumes nothing.
-use Rattle.std.specs.Prelude.{ℕ, List, [], ◌∷◌, Some, None, Option}
+use Rattle.std.specs.Prelude.{ℕ, min, List, [], ◌∷◌, Some, None, Option}
 use Rattle.ir.specs.declared.entities.Value.{Value}
 use Rattle.ir.specs.declared.instructions.Operands.{Operands}
 use Rattle.ir.specs.declared.instructions.Operands.TheVariants.{Nullary, Unary, Binary, Ternary}
@@ -46,3 +46,7 @@ not_live = record { cause = NotLive; place = 0 }
 -- so much is needed
 abbrev pub too_short : ℕ → Refusal
 too_short n = record { cause = TooShort; place = n }
+
+-- so much is needed, as far as 32 bits go
+abbrev pub too_few : ℕ → Refusal
+too_few n = too_short (min n 4294967295)

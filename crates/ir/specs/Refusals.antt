@@ -1,6 +1,7 @@
 -- How checks in their order come to a refusal. Assumes nothing.
 use Rattle.std.specs.Prelude.{ℕ, zero, suc, Bool, cond, List, [], ◌∷◌, Some, None, Ok, Err, Option, Result}
 use Rattle.std.specs.Option.{option_map}
+use Rattle.ir.specs.Options.{or_else}
 use Rattle.ir.specs.declared.refusal.Cause.{Cause}
 use Rattle.ir.specs.declared.refusal.Refusal.{Refusal}
 
@@ -12,10 +13,6 @@ because why = record { cause = why; place = 0 }
 abbrev pub first : {A : Type 0} → List (Bool × A) → Option A
 first [] = None
 first (c ∷ cs) = cond c.0 (Some c.1) (first cs)
-
-abbrev pub or_else : {A : Type 0} → Option A → Option A → Option A
-or_else (Some why) rest = Some why
-or_else None rest = rest
 
 -- the answer of checks, of which this is the first that stands, if one does
 abbrev pub checked : Option Cause → Result (Unit {0}) Cause

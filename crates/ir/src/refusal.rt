@@ -1,7 +1,8 @@
-ghost use Rattle.std.specs.Prelude.{◌≡◌, not, [], ◌∷◌, Some};
+ghost use Rattle.std.specs.Prelude.{◌≡◌, not, nat_lt, [], ◌∷◌, Some};
 ghost use Rattle.ir.specs.Codes.{cause_number, cause_meaning};
+ghost use Rattle.ir.specs.Entities.{too_few};
 ghost use Rattle.ir.specs.Printed.{refusal_text};
-ghost use Rattle.ir.specs.Refusals.{because, checked, first};
+ghost use Rattle.ir.specs.Refusals.{answer_unless, because, checked, first};
 
 use std::error::Error;
 use std::fmt;
@@ -159,4 +160,17 @@ pub fn ensure(holds: bool, cause: Cause) -> Result<(), Cause>
     ensures { result ≡ checked (first ((not holds, cause) ∷ [])) }
 {
     if holds { Ok(()) } else { Err(cause) }
+}
+
+/// Passed where `len` is no less than what is needed, which the refusal names as far as 32 bits go.
+pub fn ensure_length(len: usize, needed: usize) -> Result<(), Refusal>
+    ensures { result ≡ answer_unless (first ((nat_lt len needed, too_few needed) ∷ [])) tt }
+{
+    if len < needed {
+        return Err(Refusal {
+            cause: Cause::TooShort,
+            place: u32::try_from(needed).unwrap_or(u32::MAX),
+        });
+    }
+    Ok(())
 }

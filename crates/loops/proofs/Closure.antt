@@ -1,20 +1,15 @@
 -- A search that has met the targets of all that it met has met what its start reaches. Assumes nothing.
-use Rattle.std.proofs.Common.{◌≡◌, ℕ, zero, suc, ◌+◌, ◌<◌, ◌≤◌, true, false, not, ◌&&◌, ltb, ◌⊎◌, List, [], ◌∷◌, length, get_or, slice_get, Some, None, sym, refl, ap, ◌∙◌, subst, inl, inr, ⊎_elim, arith, length-append}
+use Rattle.std.proofs.Common.{◌≡◌, ℕ, ◌+◌, ◌<◌, ◌≤◌, true, false, not, ◌&&◌, ltb, ◌⊎◌, List, [], ◌∷◌, length, get_or, slice_get, Some, None, sym, refl, ap, ◌∙◌, subst, inl, inr, ⊎_elim, arith, length-append}
 use Rattle.std.proofs.lemmas.List.{get_or_append_left}
 use Rattle.std.proofs.lemmas.Option.{slice_get_within, slice_get-get_or, get_or_from_slice_get}
 use Rattle.std.proofs.lemmas.Bool.{cases_Bool, cases_eq, cases_lt, both_ways, cond_both, cond-true, and_from, eqb-true, lt-ltb, or_cases, or_left, or_right, eq-eqb}
 use Rattle.flow.specs.Loops.{Path, one, more}
 use Rattle.flow.specs.Meaning.{has}
-use Rattle.flow.proofs.Among.{has_here, has_append_left, has_push, has_push_cases}
+use Rattle.flow.proofs.Among.{has_get_or, has_append_left, has_push, has_push_cases}
 use Rattle.flow.proofs.Loops.{joined}
 use Rattle.flow.proofs.Walks.{has_index}
 use Rattle.loops.specs.Digraph.{Finite}
 use Rattle.loops.specs.Meeting.{meet, meet_all, Spreads, Reached}
-
-has_get_d : (vs : List ℕ) (k : ℕ) → k < length vs → has vs (get_or vs k 0) ≡ true
-has_get_d [] k h = absurd (omega arith)
-has_get_d (u ∷ us) zero h = has_here u us
-has_get_d (u ∷ us) (suc k) h = or_right _ _ (has_get_d us k (omega arith))
 
 -- ---- one node more
 
@@ -78,7 +73,7 @@ module _ (size : ℕ) (targets : ℕ → List ℕ) (v : ℕ) where
   -- one node more, u, has met its targets
   pub spreads_more : (met : List ℕ) (done u : ℕ) → Spreads size targets v met done → slice_get met done ≡ Some u → Spreads size targets v (meet_all size met (targets u)) (done + 1)
   spreads_more met done u s at = record {
-    reached = λ w h. ⊎_elim (λ e. s.reached w e) (λ e. joined (s.reached u (subst (λ x. has met x ≡ true) here (has_get_d met done low))) (one e)) (all_cases size met (targets u) w h);
+    reached = λ w h. ⊎_elim (λ e. s.reached w e) (λ e. joined (s.reached u (subst (λ x. has met x ≡ true) here (has_get_or met done low))) (one e)) (all_cases size met (targets u) w h);
     first = λ w l h. all_kept size met (targets u) w (s.first w l h);
     onward = λ k w h l e. ⊎_elim
         (λ same. all_met size met (targets u) w l (subst (λ x. has (targets x) w ≡ true) (all_front size met (targets u) k (omega (arith, low)) ∙ ap (λ i. get_or met i 0) same ∙ here) e))

@@ -4,8 +4,9 @@ use Rattle.std.specs.List.{range_with_len}
 use Rattle.std.proofs.lemmas.Bool.{cases_Bool, and_parts, and_from, not-true, ne_eqb, eqb-false, eqb-true, or_cases, false≢true}
 use Rattle.ir.specs.declared.entities.Value.{Value}
 use Rattle.ir.specs.declared.refusal.Cause.TheVariants.{Loop}
-use Rattle.flow.specs.Loops.{InLoop, LowestInLoop}
+use Rattle.flow.specs.Loops.{Path, one, more, Loopless, InLoop, LowestInLoop}
 use Rattle.flow.specs.Meaning.{Flow, Lawful, Reach, here, through as further, used, uses, live}
+use Rattle.flow.proofs.Loops.{reach_path, path_reach}
 use Rattle.flow.proofs.Paths.{live_exists}
 use Rattle.flow.proofs.Walks.{walk_is_post_order}
 use Rattle.rows.specs.Meaning.{flow, def_in}
@@ -22,7 +23,7 @@ use Rattle.plain.specs.Feed.{checks, grown}
 use Rattle.plain.specs.Loops.{leads, through, reaches_through, closes, lowest_in_loop, loop_refusal}
 use Rattle.plain.proofs.Accepted.{alias_accepted}
 use Rattle.plain.proofs.Kept.{alias_kept}
-use Rattle.plain.proofs.Loops.{Path, one, more, Loopless, Comes, reach_path, path_reach, looped, in_loop}
+use Rattle.plain.proofs.Loops.{Comes, looped, in_loop}
 use Rattle.rows.proofs.Leaning.{uses_in, uses_are}
 use Rattle.plain.proofs.NoLoops.{rows_loopless, taken, left}
 use Rattle.plain.proofs.Reaching.{reaches_some, some_reaches}

@@ -1,5 +1,5 @@
 -- Whatever calls are fed to it, the plain graph stays well-formed, and so lawful. Assumes nothing.
-use Rattle.std.proofs.Common.{◌≡◌, ℕ, List, [], ◌∷◌, length, Some, None, Option, sym, refl, ap, subst, arith}
+use Rattle.std.proofs.Common.{◌≡◌, ℕ, List, [], ◌∷◌, length, Some, None, Option, sym, refl, ap, subst}
 use Rattle.std.proofs.lemmas.Bool.{leb-false}
 use Rattle.ir.specs.declared.refusal.Refusal.{Refusal}
 use Rattle.rows.specs.Meaning.{flow}
@@ -8,17 +8,15 @@ use Rattle.rows.specs.WellFormed.{WellFormed}
 use Rattle.rows.proofs.Lawfulness.{empty_well_formed, lawful, laid_out}
 use Rattle.calls.specs.Calls.{Call, MakeBlock, AppendBlockParam, AppendInst, ClearResults, ChangeToAlias, ResolveAllAliases}
 use Rattle.plain.specs.AliasLoops.{Judged}
-use Rattle.ir.specs.Refusals.{first, or_else, answer_unless}
+use Rattle.ir.specs.Options.{or_else}
+use Rattle.ir.proofs.Options.{neither}
+use Rattle.ir.specs.Refusals.{first, answer_unless}
 use Rattle.plain.specs.Feed.{checks, last_check, refusal, grown, fed_unless, fed_all, fed}
 use Rattle.plain.specs.Loops.{loop_refusal, reaches_through}
 use Rattle.plain.specs.Theorems.{StaysWellFormed, AlwaysLawful, AliasesJudged}
 use Rattle.plain.proofs.Accepted.{none_stands}
 use Rattle.plain.proofs.AliasLoops.{judged}
 use Rattle.plain.proofs.Kept.{block_kept, param_kept, inst_kept, clear_kept, resolve_kept, alias_kept, no_refusal}
-
-neither : (a b : Option Refusal) → or_else a b ≡ None → (a ≡ None) × (b ≡ None)
-neither None b e = (refl, e)
-neither (Some why) b e = let z : ◌≡◌ {A = ℕ} 0 1 = cc in absurd (omega arith)
 
 -- a call that is not refused
 accepted_kept : (p : Rows) (marks : ℕ) (c : Call) → first (checks p marks c) ≡ None → last_check p c ≡ None → WellFormed p → WellFormed (grown p c)

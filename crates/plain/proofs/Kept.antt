@@ -6,7 +6,9 @@ use Rattle.std.proofs.lemmas.Bool.{lt-ltb}
 use Rattle.ir.specs.declared.entities.Block.{Block}
 use Rattle.ir.specs.declared.entities.Inst.{Inst}
 use Rattle.ir.specs.declared.entities.Value.{Value}
+use Rattle.flow.specs.Loops.{Path}
 use Rattle.flow.specs.Meaning.{through}
+use Rattle.flow.proofs.Loops.{path_reach}
 use Rattle.flow.proofs.Walks.{walk_is_post_order}
 use Rattle.rows.specs.Meaning.{flow}
 use Rattle.rows.specs.Rows.{Rows, no_inst, all_live, original}
@@ -20,7 +22,6 @@ use Rattle.plain.specs.Loops.{reaches_through}
 use Rattle.plain.proofs.Accepted.{inst_accepted}
 use Rattle.plain.proofs.Changes.{clear_sound, alias_sound, resolve_sound, clear_blocks, resolve_blocks}
 use Rattle.plain.proofs.Growth.{Grown, values_fit, blocks_fit}
-use Rattle.plain.proofs.Loops.{Path, path_reach}
 use Rattle.rows.proofs.Leaning.{uses_in, uses_are}
 use Rattle.plain.proofs.NoLoops.{more_no_loop, clear_no_loop, resolve_no_loop, alias_no_loop}
 use Rattle.plain.proofs.Steps.{param_grown, inst_grown, param_sound, inst_sound, rows_end}

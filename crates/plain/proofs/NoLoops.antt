@@ -11,7 +11,9 @@ use Rattle.ir.specs.declared.entities.Inst.{Inst as IrInst}
 use Rattle.ir.specs.declared.entities.Value.{Value}
 use Rattle.ir.specs.declared.instructions.Operands.{Operands}
 use Rattle.ir.specs.declared.instructions.Operands.TheVariants.{Nullary, Unary, Binary, Ternary}
+use Rattle.flow.specs.Loops.{Path, Loopless}
 use Rattle.flow.specs.Meaning.{NoLoop, used, has}
+use Rattle.flow.proofs.Loops.{loopless, no_loop}
 use Rattle.rows.specs.Meaning.{flow, def_by, inst_def, def_in}
 use Rattle.rows.specs.Rows.{Rows, value_at, inst_at, no_inst, type_in, width_at, is_alias, original, original_in, all_live, erased}
 use Rattle.rows.specs.WellFormed.{Sound, value_fits}
@@ -26,7 +28,7 @@ use Rattle.plain.proofs.Accepted as accepted
 use Rattle.plain.proofs.Chains.{original_more, original_through, original_past, erased_ends}
 use Rattle.plain.proofs.Changes.{same_part, get_or_mapped}
 use Rattle.plain.proofs.Growth.{Grown, row_kept, inst_kept}
-use Rattle.plain.proofs.Loops.{Path, Loopless, loopless, no_loop, same_loop, grown_loop, resolved_loop, aliased_loop}
+use Rattle.plain.proofs.Loops.{same_loop, grown_loop, resolved_loop, aliased_loop}
 use Rattle.calls.specs.Calls.{ClearResults, ChangeToAlias, ResolveAllAliases}
 use Rattle.rows.specs.declared.instruction.InstructionData.{InstructionData}
 use Rattle.rows.specs.declared.value.ValueData.{ValueData}

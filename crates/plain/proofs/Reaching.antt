@@ -1,10 +1,10 @@
 -- What reaches a value whose aliases lead through another. Assumes nothing.
-use Rattle.std.proofs.Common.{◌≡◌, ℕ, Bool, true, false, ◌||◌, eqb, List, [], ◌∷◌, sym, refl, ap, ◌∙◌, subst, inl, inr}
+use Rattle.std.proofs.Common.{◌≡◌, ℕ, Bool, true, false, ◌||◌, List, sym, refl, ap, ◌∙◌, inl, inr}
 use Rattle.std.specs.List.{list_any}
-use Rattle.std.proofs.lemmas.Bool.{or_cases, or_left, or_right, eqb-true, false≢true}
+use Rattle.std.proofs.lemmas.Bool.{or_cases, or_left, or_right}
 use Rattle.flow.specs.Meaning.{Lawful, Reach, here, through as further, uses, has}
 use Rattle.flow.specs.Walk.{walk}
-use Rattle.flow.proofs.Among.{has_here}
+use Rattle.flow.proofs.Among.{any_some, some_any}
 use Rattle.flow.proofs.Walks.{walk_is_post_order}
 use Rattle.rows.specs.Meaning.{flow}
 use Rattle.rows.specs.Rows.{Rows}
@@ -15,22 +15,6 @@ pub same_test : (a b : Bool) → (a ≡ true → b ≡ true) → (b ≡ true →
 same_test true b f h = sym (f refl)
 same_test false true f h = h refl
 same_test false false f h = refl
-
-any_some : (test : ℕ → Bool) (vs : List ℕ) → list_any test vs ≡ true → (v : ℕ) × (has vs v ≡ true) × (test v ≡ true)
-any_some test [] e = absurd (false≢true e)
-any_some test (v ∷ vs) e =
-    elim (or_cases (test v) (list_any test vs) e) [
-      | inl h ↦ (v, has_here v vs, h)
-      | inr h ↦ let s = any_some test vs h in (s.0, or_right (eqb v s.0) _ s.1, s.2)
-    ]
-
-some_any : (test : ℕ → Bool) (vs : List ℕ) (v : ℕ) → has vs v ≡ true → test v ≡ true → list_any test vs ≡ true
-some_any test [] v h t = absurd (false≢true h)
-some_any test (u ∷ vs) v h t =
-    elim (or_cases (eqb u v) (has vs v) h) [
-      | inl e ↦ or_left (test u) _ (subst (λ x. test x ≡ true) (sym (eqb-true u v e)) t)
-      | inr e ↦ or_right (test u) _ (some_any test vs v e t)
-    ]
 
 pub any_same : (f h : ℕ → Bool) (vs : List ℕ) → ((v : ℕ) → has vs v ≡ true → f v ≡ h v) → list_any f vs ≡ list_any h vs
 any_same f h vs same =

@@ -5,7 +5,8 @@ use Rattle.std.specs.Option.{unwrap_or}
 use Rattle.ir.specs.Codes.{opcode_at, intcc_at, type_at, type_bits, type_or}
 use Rattle.ir.specs.Constraints.{constraints_of, arg_count_fits, result_count_fits, widths_fit, immediate_fits}
 use Rattle.ir.specs.Entities.{operands_of, too_short}
-use Rattle.ir.specs.Refusals.{because, first, or_else, answer_unless}
+use Rattle.ir.specs.Options.{or_else}
+use Rattle.ir.specs.Refusals.{because, first, answer_unless}
 use Rattle.ir.specs.declared.condcodes.IntCC.{IntCC}
 use Rattle.ir.specs.declared.condcodes.IntCC.TheVariants.{Equal}
 use Rattle.ir.specs.declared.constraints.OpcodeConstraints.{OpcodeConstraints}

@@ -16,8 +16,9 @@ use Rattle.calls.specs.Calls as calls
 use Rattle.calls.specs.Calls.{Call, InstCall}
 use Rattle.script.specs.declared.items.Item.TheVariants.{Operand, Immediate, Condition}
 use Rattle.script.specs.Text.{is_space, is_feed, before, words, words_after, lines}
-use Rattle.script.specs.Numbers.{and_then, is_digit, decimal_after, below, number, behind, numbered, block_of, inst_of, value_of, immediate_from, immediate_of}
-use Rattle.script.specs.Names.{or_else, type_named, type_of, opcode_named, opcode_of, condition_named, condition_of}
+use Rattle.ir.specs.Options.{and_then, or_else}
+use Rattle.script.specs.Numbers.{is_digit, decimal_after, below, number, behind, numbered, block_of, inst_of, value_of, immediate_from, immediate_of}
+use Rattle.script.specs.Names.{type_named, type_of, opcode_named, opcode_of, condition_named, condition_of}
 use Rattle.script.specs.Script.{ItemsSaid, item_of, with_item, no_items, items_of, types_of, none, one, saying, Says, line_of, lines_of}
 use Rattle.script.specs.Spelled.{item_words, spelled, spaced, written, Fits, InstFits, ReadsBack}
 use Rattle.script.proofs.Pieces.{Unfed, line_fed}

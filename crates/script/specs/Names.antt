@@ -4,14 +4,10 @@ use Rattle.std.specs.List.{find}
 use Rattle.std.specs.Option.{option_map}
 use Rattle.std.specs.Str.{bytes_eq}
 use Rattle.ir.specs.Codes.{opcodes, opcode_name, opcode_code, intccs, intcc_name, intcc_code}
-use Rattle.script.specs.Numbers.{and_then, number, behind}
+use Rattle.ir.specs.Options.{and_then, or_else}
+use Rattle.script.specs.Numbers.{number, behind}
 use Rattle.script.specs.declared.names.Keyword.{Keyword}
 use Rattle.script.specs.declared.names.Keyword.TheVariants.{MakeBlock, AppendBlockParam, AppendInst, ClearResults, ChangeToAlias, ResolveAllAliases}
-
--- one reading, or else another
-abbrev pub or_else : {X : Type 0} → Option X → Option X → Option X
-or_else None other = other
-or_else (Some x) other = Some x
 
 -- what a word names in a table
 abbrev pub named : {X : Type 0} → List (List ℕ × X) → List ℕ → Option X

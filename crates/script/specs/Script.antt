@@ -15,8 +15,9 @@ use Rattle.script.specs.declared.items.Items.{Items}
 use Rattle.script.specs.declared.names.Keyword.{Keyword}
 use Rattle.script.specs.declared.names.Keyword.TheVariants.{MakeBlock, AppendBlockParam, AppendInst, ClearResults, ChangeToAlias, ResolveAllAliases}
 use Rattle.script.specs.Text.{words, lines}
-use Rattle.script.specs.Numbers.{and_then, block_of, inst_of, value_of, immediate_of}
-use Rattle.script.specs.Names.{or_else, keyword_of, type_of, opcode_of, condition_of}
+use Rattle.ir.specs.Options.{and_then, or_else}
+use Rattle.script.specs.Numbers.{block_of, inst_of, value_of, immediate_of}
+use Rattle.script.specs.Names.{keyword_of, type_of, opcode_of, condition_of}
 
 -- ---- the items of an instruction
 

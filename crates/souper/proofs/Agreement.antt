@@ -5,12 +5,13 @@ use Rattle.std.proofs.lemmas.Bool.{leb-false}
 use Rattle.ir.specs.Codes.{intcc_word}
 use Rattle.ir.specs.Bitvectors.{complement, shift_left, shift_right, signed_shift_right}
 use Rattle.ir.specs.Operations.{compute, unless}
-use Rattle.ir.specs.Widths.{Signature, InRange}
+use Rattle.ir.proofs.Range.{InRange}
+use Rattle.ir.specs.Widths.{Signature}
 use Rattle.ir.specs.declared.opcodes.Opcode.{Opcode}
 use Rattle.ir.specs.declared.opcodes.Opcode.TheVariants as op
 use Rattle.ir.specs.declared.condcodes.IntCC.{IntCC}
 use Rattle.ir.specs.declared.condcodes.IntCC.TheVariants as cond
-use Rattle.flow.proofs.Sequences.{none_is_no_some}
+use Rattle.ir.proofs.Options.{none_is_no_some}
 use Rattle.souper.specs.Words.{apply}
 use Rattle.souper.specs.declared.form.Form.{Form}
 use Rattle.souper.specs.declared.form.Form.TheVariants.{Untranslated, Plain, Inverted, Selected, Compared}

@@ -9,7 +9,8 @@ use Rattle.ir.specs.declared.words.Word.{Word}
 use Rattle.ir.specs.declared.words.Word.TheVariants.{Var, Add, Mul, Udiv, Sdiv, Urem, Srem, And, Or, Xor, Shl, Ashr, Lshr, Select, Zext, Sext, Eq, Ne, Slt, Sle, Ult, Ule, Ctpop, Bitreverse, Ctlz, Cttz, SaddSat, SsubSat, UsubSat}
 use Rattle.ir.proofs.Range.{unsigned_lt, lt_pow, bit_reverse_lt, below_some, below_unless}
 use Rattle.flow.specs.Rounds.{all_of, rounds}
-use Rattle.flow.proofs.Sequences.{none_is_no_some, some_injective, and_then_some, all_of_some}
+use Rattle.ir.proofs.Options.{none_is_no_some, some_injective}
+use Rattle.flow.proofs.Sequences.{and_then_some, all_of_some}
 use Rattle.souper.specs.Rows.{listed, operand_number, operand_numbers, row_at, row_number, row_result, row_step}
 use Rattle.souper.specs.Soundness.{RowInputsFit, RowNumbersInRange}
 use Rattle.souper.specs.Widths.{HasWidth, HasWidthOrZero, KindFits, WidthsPass}

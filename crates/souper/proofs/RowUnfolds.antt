@@ -1,8 +1,8 @@
 -- The number on a row follows from the numbers on the rows that it names. Assumes nothing.
 use Rattle.std.proofs.Common.{◌≡◌, ℕ, ◌<◌, ◌≤◌, List, length, slice_get, Some, None, Option, ap, ◌∙◌}
 use Rattle.std.proofs.lemmas.Option.{slice_get_past, slice_get-get_or}
-use Rattle.flow.specs.Rounds.{and_then, Monotone}
-use Rattle.flow.proofs.Rounds.{rounds_settle}
+use Rattle.ir.specs.Options.{and_then}
+use Rattle.flow.proofs.Rounds.{rounds_settle, Monotone}
 use Rattle.flow.proofs.Sequences.{and_then_more, and_then_some, all_of_more}
 use Rattle.souper.specs.Rows.{RowUnfolds, listed, operand_number, operand_numbers, row_at, row_number, row_result, row_step, variable_of}
 use Rattle.souper.specs.declared.rows.Operand.{Operand}

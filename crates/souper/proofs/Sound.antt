@@ -19,9 +19,11 @@ use Rattle.flow.specs.Walk.{Ordered, In, place_of}
 use Rattle.flow.specs.declared.definition.ValueDef.{ValueDef}
 use Rattle.flow.specs.declared.definition.ValueDef.TheVariants as def
 use Rattle.flow.specs.Number.{number_of, def_number, InputsFit}
-use Rattle.flow.specs.Rounds.{and_then, all_of}
+use Rattle.ir.specs.Options.{and_then}
+use Rattle.flow.specs.Rounds.{all_of}
 use Rattle.flow.proofs.Range.{numbers_in_range, operands_in_range}
-use Rattle.flow.proofs.Sequences.{none_is_no_some, some_injective, and_then_some}
+use Rattle.ir.proofs.Options.{none_is_no_some, some_injective}
+use Rattle.flow.proofs.Sequences.{and_then_some}
 use Rattle.flow.proofs.Unfolds.{number_unfolds}
 use Rattle.souper.specs.Counted.{is_translated}
 use Rattle.souper.specs.declared.rows.Row.{Row}

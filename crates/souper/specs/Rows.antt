@@ -2,7 +2,8 @@
 use Rattle.std.specs.Prelude.{◌≡◌, ℕ, ◌<◌, List, [], ◌∷◌, map, length, Some, Option, slice_get, slice_index_or}
 use Rattle.ir.specs.Bitvectors.{unsigned}
 use Rattle.ir.specs.declared.words.Word.TheVariants.{Var}
-use Rattle.flow.specs.Rounds.{and_then, all_of, Step, rounds}
+use Rattle.ir.specs.Options.{and_then}
+use Rattle.flow.specs.Rounds.{all_of, Step, rounds}
 use Rattle.souper.specs.Words.{apply}
 use Rattle.souper.specs.declared.rows.Operand.{Operand}
 use Rattle.souper.specs.declared.rows.Operand.TheVariants as operand

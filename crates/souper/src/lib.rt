@@ -2,6 +2,9 @@
 //!
 //! Start at `specs/Translation.antt`, which says which rows a walk becomes, and at `specs/Soundness.antt`, which says that they mean
 //! what the values mean.
+//!
+//! Proofs: the number on a value's row is the value's (`Sound`, over `Agreement` word by word and `Places`), the rows of a walk (`WalkRows`,
+//! `Grows`), the width check (`Checks`, `Fits`, `Live`), and numbers on rows (`RowUnfolds`, `RowRange`).
 #![tactic(auto)]
 
 ghost use Rattle.souper.specs.Rows.{RowUnfolds};

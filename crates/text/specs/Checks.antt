@@ -1,7 +1,7 @@
 -- When a candidate is not written, and what the buffer holds afterwards. Assumes nothing.
-use Rattle.std.specs.Prelude.{ℕ, min, Bool, not, ◌&&◌, List, [], ◌∷◌, length, Some, None, Option, ◌==◌, nat_le, nat_lt}
+use Rattle.std.specs.Prelude.{ℕ, Bool, not, ◌&&◌, List, [], ◌∷◌, length, Some, None, Option, ◌==◌, nat_le, nat_lt}
 use Rattle.std.specs.List.{list_all}
-use Rattle.ir.specs.Entities.{too_short}
+use Rattle.ir.specs.Entities.{too_few}
 use Rattle.ir.specs.Refusals.{because, first}
 use Rattle.ir.specs.declared.entities.Value.{Value}
 use Rattle.ir.specs.declared.refusal.Cause.TheVariants.{BadName}
@@ -20,7 +20,7 @@ is_name name = nat_le (length name) 64 && list_all is_name_byte name
 
 -- a buffer of so many bytes is too short for as many as are needed; the refusal names these, as far as 32 bits go
 unfoldable pub no_room : ℕ → ℕ → Bool × Refusal
-no_room room needed = (nat_lt room needed, too_short (min needed 4294967295))
+no_room room needed = (nat_lt room needed, too_few needed)
 
 -- what may stand against writing, in the order in which it is looked for: a buffer that is too short, and then a name that is not fit
 abbrev pub faults : ℕ → Value → List ℕ → List Row → List (Bool × Refusal)

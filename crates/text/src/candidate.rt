@@ -6,7 +6,7 @@ ghost use Rattle.text.specs.Checks.{is_name, is_name_byte, no_room, over_unless,
 ghost use Rattle.text.specs.Text.{text_of};
 
 use crate::lines::{write_ending, write_heading, write_row};
-use ir::{Cause, Refusal, Value, ensure};
+use ir::{Cause, Refusal, Value, ensure, ensure_length};
 use souper::Row;
 
 /// Whether a name may hold the byte: printable ASCII but the backtick, which ends the name.
@@ -54,27 +54,13 @@ fn write_text(text: &mut [u8], root: Value, name: &[u8], rows: &[Row]) -> usize
     at + write_ending(&mut text[at..], rows)
 }
 
-/// That a buffer has room for as many bytes as are needed. The refusal names these, as far as 32 bits go.
-#[tactic(auto, unfolding(crate::specs::Checks::no_room))]
-fn ensure_room(room: usize, needed: usize) -> Result<(), Refusal>
-    ensures { result ≡ answer_unless (first (no_room room needed ∷ [])) tt }
-{
-    if room < needed {
-        return Err(Refusal {
-            cause: Cause::TooShort,
-            place: u32::try_from(needed).unwrap_or(u32::MAX),
-        });
-    }
-    Ok(())
-}
-
 /// What is checked before anything is written, in this order: that the buffer has room for the text, and that the name is fit.
-#[tactic(auto, using(crate::proofs::Checks::no_room_capped))]
+#[tactic(auto, using(crate::proofs::Checks::no_room_capped), unfolding(crate::specs::Checks::no_room))]
 fn check(room: usize, root: Value, name: &[u8], rows: &[Row]) -> Result<(), Refusal>
     requires { room < 2 ^ 63 }
     ensures { result ≡ answer_unless (refusal room root name.now rows.now) tt }
 {
-    ensure_room(room, text_len(root, name, rows))?;
+    ensure_length(room, text_len(root, name, rows))?;
     ensure(is_name(name), Cause::BadName)?;
     Ok(())
 }

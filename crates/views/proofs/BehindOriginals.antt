@@ -9,7 +9,8 @@ use Rattle.ir.specs.declared.instructions.Operands.{Operands}
 use Rattle.ir.specs.declared.instructions.Operands.TheVariants.{Nullary, Unary, Binary, Ternary}
 use Rattle.flow.specs.Meaning.{Flow, Lawful, Node, Reach, here, through, missing, node, width_of, original_of, def_of, used, uses, has}
 use Rattle.flow.specs.Number.{def_number}
-use Rattle.flow.specs.Rounds.{and_then, all_of}
+use Rattle.ir.specs.Options.{and_then}
+use Rattle.flow.specs.Rounds.{all_of}
 use Rattle.flow.specs.declared.definition.ValueDef.{ValueDef}
 use Rattle.flow.specs.declared.definition.ValueDef.TheVariants.{Constant, Operation, Variable, Deleted}
 use Rattle.flow.proofs.Among.{has_here, has_map, has_before_map, map_among}

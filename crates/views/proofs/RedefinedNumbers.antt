@@ -7,7 +7,8 @@ use Rattle.ir.specs.Entities.{values}
 use Rattle.ir.specs.Operations.{compute}
 use Rattle.flow.specs.Meaning.{Flow, Node, missing, node, def_of}
 use Rattle.flow.specs.Number.{def_number, value_step, number_of}
-use Rattle.flow.specs.Rounds.{and_then, all_of, rounds}
+use Rattle.ir.specs.Options.{and_then}
+use Rattle.flow.specs.Rounds.{all_of, rounds}
 use Rattle.flow.specs.declared.definition.ValueDef.{ValueDef}
 use Rattle.flow.specs.declared.definition.ValueDef.TheVariants.{Constant, Operation, Variable, Deleted}
 use Rattle.views.specs.Redefined.{redefined_node, redefined}

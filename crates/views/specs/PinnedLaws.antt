@@ -9,7 +9,7 @@ use Rattle.flow.specs.Layout.{Layout, LawfulLayout}
 use Rattle.flow.specs.Meaning.{Flow, Lawful, Node, node, width_of, original_of, def_of, is_variable, present, used, has, DefFits}
 use Rattle.flow.specs.declared.definition.ValueDef.{ValueDef}
 use Rattle.flow.specs.declared.definition.ValueDef.TheVariants.{Constant, Operation, Variable, Deleted}
-use Rattle.flow.proofs.Sequences.{none_is_no_some, some_injective}
+use Rattle.ir.proofs.Options.{none_is_no_some, some_injective}
 use Rattle.views.specs.Pins.{pinned_to, pinned_def, pinned, can_pin, Pinnable}
 use Rattle.views.specs.Redefined.{Redefines}
 use Rattle.views.specs.declared.pin.Pin.{Pin}

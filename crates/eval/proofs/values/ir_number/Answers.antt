@@ -1,6 +1,6 @@
 use Rattle.std.proofs.Common.{◌++◌, List, ℕ, drop, replicate, sym, ap, ◌∙◌}
 use Rattle.std.proofs.lemmas.Result.{err_from_is_err_and}
-use Rattle.flow.proofs.Sequences.{none_is_no_some}
+use Rattle.ir.proofs.Options.{none_is_no_some}
 use Rattle.eval.proofs.Answers.{alive_if_asked, nothing_stands, passed_first, refused_first, something_stands, cleared_twice}
 use Rattle.eval.proofs.values.ir_number.Goals as goal
 

@@ -1,5 +1,5 @@
 use Rattle.std.proofs.Common.{◌≡◌, ℕ, List, ◌++◌, ◌∷◌, [], length, Ok, Some, None, sym, ap, ◌∙◌, subst, rules}
-use Rattle.ir.specs.Refusals.{or_else}
+use Rattle.ir.specs.Options.{or_else}
 use Rattle.rows.specs.Rows.{Rows}
 use Rattle.rows.specs.declared.instruction.InstructionData.{InstructionData}
 use Rattle.rows.specs.WellFormed.{WellFormed}

@@ -1,6 +1,7 @@
 use Rattle.std.proofs.Common.{◌≡◌, ℕ, true, false, ltb, ◌++◌, length, drop, Ok, Some, None, Option, set, sym, ap, ◌∙◌, subst}
 use Rattle.ir.specs.Entities.{value}
-use Rattle.ir.specs.Refusals.{first, or_else, answer_unless}
+use Rattle.ir.specs.Options.{or_else}
+use Rattle.ir.specs.Refusals.{first, answer_unless}
 use Rattle.ir.specs.declared.entities.Value.{Value}
 use Rattle.ir.specs.declared.refusal.Refusal.{Refusal}
 use Rattle.flow.specs.Meaning as meaning
