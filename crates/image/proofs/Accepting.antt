@@ -55,9 +55,6 @@ module _ (bs : List ℕ) where
       let clean = neither (records_refusal bs) (widths_refusal (rows_of bs)) early in
       (clean.0, sound_rows clean.0 clean.1 none)
 
-  pub accepted_well_formed : Accepted bs → WellFormed (rows_of bs)
-  accepted_well_formed a = (accepted_image a).1
-
   image_accepted : IsImage bs → Accepted bs
   unfolding early_refusal
   image_accepted (records, (sound, blocks, loopless)) = (

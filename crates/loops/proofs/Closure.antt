@@ -9,7 +9,13 @@ use Rattle.flow.proofs.Among.{has_get_or, has_append_left, has_push, has_push_ca
 use Rattle.flow.proofs.Loops.{joined}
 use Rattle.flow.proofs.Walks.{has_index}
 use Rattle.loops.specs.Digraph.{Finite}
-use Rattle.loops.specs.Meeting.{meet, meet_all, Spreads, Reached}
+use Rattle.loops.specs.Meeting.{meet, meet_all, Reached}
+
+-- a search from v that has met these nodes, the first of which, as many as are done, have met their targets
+pub record Spreads (size : ℕ) (targets : ℕ → List ℕ) (v : ℕ) (met : List ℕ) (done : ℕ) : Type 0 where
+  pub reached : (w : ℕ) → has met w ≡ true → Path targets v w
+  pub first : (w : ℕ) → w < size → has (targets v) w ≡ true → has met w ≡ true
+  pub onward : (k w : ℕ) → k < done → w < size → has (targets (get_or met k 0)) w ≡ true → has met w ≡ true
 
 -- ---- one node more
 

@@ -1,5 +1,5 @@
 -- What a search has met. Assumes nothing.
-use Rattle.std.specs.Prelude.{◌≡◌, ℕ, ◌+◌, ◌<◌, Bool, true, false, cond, not, ◌&&◌, List, [], ◌∷◌, ◌++◌, length, count_by, nat_lt, slice_index, slice_index_or}
+use Rattle.std.specs.Prelude.{◌≡◌, ℕ, ◌+◌, ◌<◌, Bool, true, false, cond, not, ◌&&◌, List, [], ◌∷◌, ◌++◌, length, count_by, nat_lt, slice_index_or}
 use Rattle.flow.specs.Loops.{Path}
 use Rattle.flow.specs.Meaning.{has}
 
@@ -15,12 +15,6 @@ meet size met w = cond (nat_lt w size && not (has met w)) (met ++ (w ∷ [])) me
 abbrev pub meet_all : ℕ → List ℕ → List ℕ → List ℕ
 meet_all size met [] = met
 meet_all size met (w ∷ ws) = meet_all size (meet size met w) ws
-
--- a search from v that has met these nodes, the first of which, as many as are done, have met their targets
-pub record Spreads (size : ℕ) (targets : ℕ → List ℕ) (v : ℕ) (met : List ℕ) (done : ℕ) : Type 0 where
-  pub reached : (w : ℕ) → has met w ≡ true → Path targets v w
-  pub first : (w : ℕ) → w < size → has (targets v) w ≡ true → has met w ≡ true
-  pub onward : (k w : ℕ) → k < done → w < size → has (targets (slice_index met k)) w ≡ true → has met w ≡ true
 
 -- met are the nodes that v reaches in one step or more
 pub record Reached (size : ℕ) (targets : ℕ → List ℕ) (v : ℕ) (met : List ℕ) : Type 0 where

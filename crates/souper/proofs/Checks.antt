@@ -1,12 +1,11 @@
 -- The width check goes through the rows in order, and names the first that breaks a rule. Assumes nothing.
-use Rattle.std.proofs.Common.{◌≡◌, ℕ, zero, suc, ◌+◌, ◌<◌, ◌≤◌, Bool, true, false, cond, ◌↔◌, T, List, [], ◌∷◌, length, get_or, drop, Some, None, Ok, Err, Option, Result, sym, refl, ap, ◌∙◌, subst, add-one, arith}
-use Rattle.std.proofs.lemmas.List.{drop_more, drop_all, get_or_past}
-use Rattle.std.proofs.lemmas.Bool.{and_parts, and_from, eqb-true, eq-eqb, ltb-true, lt-ltb, both_ways, cond-true, cond-false}
+use Rattle.std.proofs.Common.{◌≡◌, ℕ, zero, suc, ◌+◌, ◌<◌, Bool, true, false, cond, ◌↔◌, T, List, [], ◌∷◌, length, Some, None, Ok, Err, Option, Result, sym, refl, subst, arith}
+use Rattle.std.proofs.lemmas.Bool.{and_parts, and_from, eqb-true, eq-eqb, ltb-true, lt-ltb, both_ways}
 use Rattle.std.proofs.lemmas.Float.{T_from_true}
 use Rattle.ir.specs.declared.refusal.Refusal.{Refusal}
 use Rattle.flow.specs.Meaning.{is_type}
 use Rattle.souper.specs.Check.{has_width, has_width_or_zero, kind_fits, is_earlier, are_earlier, row_fits, first_bad, broken_at, verdict, width_check}
-use Rattle.souper.specs.Rows.{operand_width, row_at, variable_of}
+use Rattle.souper.specs.Rows.{operand_width, row_at}
 use Rattle.souper.specs.Widths.{HasWidth, HasWidthOrZero, KindFits, Earlier, AllEarlier, RowFits, WidthsPass, FirstToBreak}
 use Rattle.souper.specs.Words.{kind_of}
 use Rattle.souper.specs.declared.kind.Kind.{Kind}
@@ -227,23 +226,3 @@ module _ (rows : List Row) where
       at : (o : Option ℕ) → Judged o → verdict o ≡ Err why → (r : ℕ) × FirstToBreak rows r × (why ≡ broken_at r)
       at None j e = cc
       at (Some r) j e = (r, j, cc)
-
--- ---- the loop
-
-pub row_width_past : (rows : List Row) (r : ℕ) → length rows ≤ r → 0 ≡ (row_at rows r).width
-row_width_past rows r le = sym (ap (λ (row : Row). row.width) (get_or_past rows r (variable_of 0) le))
-
-module _ (rows : List Row) (at : ℕ) (d : Row) (lt : at < length rows) where
-  front : drop at rows ≡ get_or rows at d ∷ drop (at + 1) rows
-  front = drop_more rows at d lt
-
-  -- a row that passes
-  pub passes : row_fits rows at (get_or rows at d) ≡ true → first_bad rows at (drop at rows) ≡ first_bad rows (at + 1) (drop (at + 1) rows)
-  passes ok = ap (first_bad rows at) front ∙ cond-true _ _ _ ok ∙ ap (λ n. first_bad rows n (drop (at + 1) rows)) (sym (add-one at))
-
-  -- a row that does not
-  pub breaks : row_fits rows at (get_or rows at d) ≡ false → first_bad rows at (drop at rows) ≡ Some at
-  breaks bad = ap (first_bad rows at) front ∙ cond-false _ _ _ bad
-
-pub all_pass : (rows : List Row) (at : ℕ) → length rows ≤ at → first_bad rows at (drop at rows) ≡ None
-all_pass rows at le = ap (first_bad rows at) (drop_all at rows le)

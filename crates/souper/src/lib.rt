@@ -8,7 +8,7 @@
 #![tactic(auto)]
 
 ghost use Rattle.souper.specs.Rows.{RowUnfolds};
-ghost use Rattle.souper.specs.Soundness.{TranslationSound, DefinedRowsSound, TranslationGrows, RowNumbersInRange};
+ghost use Rattle.souper.specs.Soundness.{TranslationSound, DefinedRowsSound, TranslationFits, TranslationGrows, RowNumbersInRange};
 ghost use Rattle.souper.specs.WalkRows.{TranslationIsRowsOfWalk};
 
 pub mod check;
@@ -33,6 +33,7 @@ pub fn row_numbers_stand()
 pub fn translation_stands()
     ensures sound { TranslationSound }
     ensures defined { DefinedRowsSound }
+    ensures fits { TranslationFits }
     ensures rows { TranslationIsRowsOfWalk }
     ensures grows { TranslationGrows }
 {}

@@ -1,5 +1,5 @@
 use Rattle.std.proofs.Common.{◌-◌}
-use Rattle.loops.specs.Meeting.{Spreads}
+use Rattle.loops.proofs.Closure.{Spreads}
 use Rattle.loops.proofs.lowest.reached.Given as goal
 
 abbrev pub invariant-loop-u : goal.invariant-loop-u
