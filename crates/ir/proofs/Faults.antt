@@ -35,7 +35,7 @@ module _ (fault : ℕ → Option Cause) where
     where
       at : (o : Option Cause) → fault k ≡ o → or_else (option_map (λ (w : Cause). record { cause = w; place = k }) o) (first_fault fault (suc k) n) ≡ None
           → (first_fault fault (suc k) n ≡ None → k < j → fault j ≡ None) → fault j ≡ None
-      at (Some why) is q rest = let z : ◌≡◌ {A = ℕ} 0 1 = cc in absurd (omega arith)
+      at (Some why) is q rest = cc
       at None is q rest =
           elim (cases_lt k j) [
             | inl lt ↦ rest q lt

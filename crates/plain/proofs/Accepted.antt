@@ -21,7 +21,7 @@ use Rattle.calls.specs.Calls.{InstCall}
 
 -- where no cause is found, none stands
 none_of : (b : Bool) (why : Refusal) (rest : Option Refusal) → cond b (Some why) rest ≡ None → (b ≡ false) × (rest ≡ None)
-none_of true why rest e = let z : ◌≡◌ {A = ℕ} 0 1 = cc in absurd (omega arith)
+none_of true why rest e = cc
 none_of false why rest e = (refl, e)
 
 pub none_stands : (cs : List (Bool × Refusal)) → first cs ≡ None → All (λ c. c.0 ≡ false) cs

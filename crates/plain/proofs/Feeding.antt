@@ -1,5 +1,5 @@
 -- A list of calls with one call more, and one call's answers. Assumes nothing.
-use Rattle.std.proofs.Common.{◌≡◌, ℕ, List, [], ◌∷◌, ◌++◌, Some, None, Ok, Err, Option, Result, sym, refl, ap, ◌∙◌, subst, arith}
+use Rattle.std.proofs.Common.{◌≡◌, ℕ, List, [], ◌∷◌, ◌++◌, Some, None, Ok, Err, Option, Result, sym, refl, ap, ◌∙◌, subst}
 use Rattle.std.specs.Result.{MatchResult, IsOkAnd}
 use Rattle.ir.specs.declared.refusal.Refusal.{Refusal}
 use Rattle.rows.specs.Rows.{Rows}
@@ -30,6 +30,6 @@ pub mapped : {A B : Type 0} (o : Option Refusal) (x : A) (y : B) (r : Result A R
     → MatchResult r (λ a. IsOkAnd out (P a)) (λ e. out ≡ Err e) → ((b : B) → P x b → b ≡ y) → out ≡ answer_unless o y
 mapped None x y (Ok a) (Ok b) P e h f = let same : a ≡ x = cc in ap Ok (f b (subst (λ z. P z b) same h))
 mapped None x y (Ok a) (Err w) P e h f = absurd h
-mapped None x y (Err w) out P e h f = let z : ◌≡◌ {A = ℕ} 0 1 = cc in absurd (omega arith)
-mapped (Some w) x y (Ok a) out P e h f = let z : ◌≡◌ {A = ℕ} 0 1 = cc in absurd (omega arith)
+mapped None x y (Err w) out P e h f = cc
+mapped (Some w) x y (Ok a) out P e h f = cc
 mapped (Some w) x y (Err v) out P e h f = let same : v ≡ w = cc in h ∙ ap Err same

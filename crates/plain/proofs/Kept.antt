@@ -96,5 +96,5 @@ alias_kept p marks dest src e free w = (
 )
 
 pub no_refusal : (b : Bool) (why : Refusal) → cond b (Some why) None ≡ None → b ≡ false
-no_refusal true why e = let z : ◌≡◌ {A = ℕ} 0 1 = cc in absurd (omega arith)
+no_refusal true why e = cc
 no_refusal false why e = refl
