@@ -1,5 +1,5 @@
 -- The candidates of a graph, one after another. Assumes nothing.
-use Rattle.std.proofs.Common.{◌≡◌, ◌<◌, List, [], ◌∷◌, ◌++◌, map, length, take, vec_items, sym, refl, ap, ◌∙◌, subst, arith}
+use Rattle.std.proofs.Common.{◌≡◌, List, [], ◌∷◌, ◌++◌, map, take, vec_items, sym, refl, ap, ◌∙◌, subst}
 use Rattle.std.specs.List.{AllByRecursion as All}
 use Rattle.std.proofs.ByRecursion.{All-push}
 use Rattle.std.proofs.lemmas.List.{take_at}
@@ -65,10 +65,6 @@ module _ (g : Flow) (l : Layout) where
     chain = chain_push start from all lhs f.chain next;
     each = All-push (λ (x : Lhs). LhsOf g x.root.0 (vec_items x.rows) x.counted x.steps) all lhs f.each is;
   }
-
-  -- fewer roots are left
-  pub fewer : (from : Place) (root : Value) (next : Place) → NextRoot g l from root next → length (roots_from g l next) < length (roots_from g l from)
-  fewer from root next n = omega (arith, ap length n.first)
 
   pub found_all : Lawful g → LawfulLayout g l → (from : Place) (all : List Lhs) → Found from all → roots_from g l from ≡ [] → Harvested g l all
   found_all lawful laid from all f none =

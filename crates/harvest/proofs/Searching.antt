@@ -3,7 +3,7 @@ use Rattle.std.proofs.Common.{◌≡◌, ℕ, zero, suc, ◌+◌, ◌-◌, ◌<�
 use Rattle.std.proofs.Math.Seq.{get_or-append_seam}
 use Rattle.std.specs.List.{cons_option}
 use Rattle.std.proofs.lemmas.List.{drop_more, drop_all, take_more, drop_at, take-append-drop}
-use Rattle.std.proofs.lemmas.Bool.{lt-ltb, le-ltb, eq-eqb, ne_eqb, cases_lt, cond-true, cond-false}
+use Rattle.std.proofs.lemmas.Bool.{lt-ltb, le-ltb, ne_eqb, cases_lt, cond-true, cond-false}
 use Rattle.ir.specs.declared.entities.Value.{Value}
 use Rattle.flow.specs.Layout.{Layout, InstRow, inst_at, no_inst, in_block, in_blocks, onward, in_order}
 use Rattle.flow.specs.Meaning.{Flow, Lawful}
@@ -41,9 +41,6 @@ onward_start l b = ⊎_elim
 pub onward_all : (l : Layout) → onward l 0 0 ≡ in_order l
 onward_all l = onward_start l 0 ∙ (let e : l.num_blocks - 0 ≡ l.num_blocks = omega arith in ap (in_blocks l 0) e)
 
-pub onward_none : (l : Layout) (b index : ℕ) → l.num_blocks ≤ b → onward l b index ≡ []
-onward_none l b index le = cond-false _ _ _ (le-ltb b l.num_blocks le)
-
 -- ---- the search
 
 -- the index in a block at which the search begins
@@ -63,23 +60,7 @@ pub record Insts (g : Flow) (l : Layout) (from : Place) (b first index inst : �
   pub passed : index ≡ length (in_block b (take inst l.insts))
 
 module _ (g : Flow) (l : Layout) (from : Place) where
-  pub blocks_start : Blocks g l from from.block
-  blocks_start =
-      let e : start_at from from.block ≡ from.index = cond-true _ _ _ (eq-eqb from.block from.block refl) in
-      record { left = sym (ap (λ i. roots_at g (onward l from.block i)) e) }
-
-  pub blocks_end : (b : ℕ) → l.num_blocks ≤ b → Blocks g l from b → roots_from g l from ≡ []
-  blocks_end b le t = t.left ∙ ap (roots_at g) (onward_none l b (start_at from b) le)
-
   module _ (b : ℕ) (lt : b < l.num_blocks) where
-    insts_start : (first : ℕ) → onward l b first ≡ rest l b first 0 0
-    insts_start first = cond-true _ _ _ (lt-ltb b l.num_blocks lt) ∙ (let e : first ≡ first - 0 = omega arith in ap (λ i. drop i (in_block b l.insts) ++ in_blocks l (suc b) (l.num_blocks - suc b)) e)
-
-    pub insts_from : (first : ℕ) → first ≡ start_at from b → Blocks g l from b → Insts g l from b first 0 0
-    insts_from first e t =
-        let s : onward l b (start_at from b) ≡ rest l b first 0 0 = ap (onward l b) (sym e) ∙ insts_start first in
-        record { left = t.left ∙ ap (roots_at g) s; passed = refl }
-
     pub insts_end : (first index inst : ℕ) → length l.insts ≤ inst → from.block ≤ b → Insts g l from b first index inst → Blocks g l from (b + 1)
     insts_end first index inst le low t =
         let none : drop inst l.insts ≡ [] = drop_all inst l.insts le in
@@ -97,9 +78,6 @@ module _ (g : Flow) (l : Layout) (from : Place) where
         drop_nil (suc n) = refl
 
     module _ (first index inst : ℕ) (i : inst < length l.insts) (t : Insts g l from b first index inst) where
-      later : List InstRow
-      later = in_blocks l (suc b) (l.num_blocks - suc b)
-
       front : drop inst l.insts ≡ inst_at l inst ∷ drop (inst + 1) l.insts
       front = drop_more l.insts inst no_inst i
 
