@@ -25,16 +25,16 @@ signed_high w x h = ap (λ (b : Bool). cond b (pos x) (negsuc (2 ^ w - suc x))) 
 pub unsigned_pos : (w : ℕ) (z : ℤ) → le_z (pos 0) z ≡ true → bit_and (nat_abs z) (2 ^ w - 1) ≡ unsigned w z
 unfolding unsigned
 unsigned_pos w (pos n) h = and_mask n w
-unsigned_pos w (negsuc n) h = let q : ◌≡◌ {A = ℕ} 0 1 = cc in absurd (omega arith)
+unsigned_pos w (negsuc n) h = cc
 
 pub unsigned_neg : (w : ℕ) (z : ℤ) → le_z (pos 0) z ≡ false → 2 ^ w - 1 - bit_and (mag z) (2 ^ w - 1) ≡ unsigned w z
 unfolding unsigned
-unsigned_neg w (pos n) h = let t = leb-zero n in let q : ◌≡◌ {A = ℕ} 0 1 = cc in absurd (omega arith)
+unsigned_neg w (pos n) h = let t = leb-zero n in cc
 unsigned_neg w (negsuc n) h = rw and_mask (omega arith)
 
 -- - (z + 1) of a negative number, as the code has it
 pub minus_one_less : (z : ℤ) → SFits w64 z → le_z (pos 0) z ≡ false → nat_abs (to_z w64 (of_z w64 (pos 0 -ℤ to_z w64 (of_z w64 (z +ℤ pos 1))))) ≡ mag z
-minus_one_less (pos n) f h = let t = leb-zero n in let q : ◌≡◌ {A = ℕ} 0 1 = cc in absurd (omega arith)
+minus_one_less (pos n) f h = let t = leb-zero n in cc
 minus_one_less (negsuc n) f h = omega (arith, ints, f.sfits)
 
 -- ---- signed operations in a word of 64 bits

@@ -1,5 +1,5 @@
 -- Where there is room for the text, only a name that is not fit is refused. Assumes nothing.
-use Rattle.std.proofs.Common.{◌≡◌, ℕ, ◌≤◌, Bool, true, false, not, List, [], ◌∷◌, length, Err, refl, arith}
+use Rattle.std.proofs.Common.{◌≡◌, ℕ, ◌≤◌, Bool, true, false, not, List, [], ◌∷◌, length, Err, refl}
 use Rattle.std.specs.Prelude.{nat_lt}
 use Rattle.std.proofs.lemmas.Bool.{both_ways, le-ltb}
 use Rattle.ir.specs.Refusals.{answer_unless, because, first}
@@ -12,7 +12,7 @@ use Rattle.text.specs.Text.{text_of}
 
 by_the_name : (short named : Bool) (a b why : Refusal) (n : ℕ) → short ≡ false → answer_unless (first ((short, a) ∷ (not named, b) ∷ [])) n ≡ Err why → (named ≡ false) × (why ≡ b)
 by_the_name true named a b why n room e = absurd (both_ways true room refl)
-by_the_name false true a b why n room e = let z : ◌≡◌ {A = ℕ} 0 1 = cc in absurd (omega arith)
+by_the_name false true a b why n room e = cc
 by_the_name false false a b why n room e = let same : why ≡ b = cc in (refl, same)
 
 pub only_the_name : (room n : ℕ) (root : Value) (name : List ℕ) (rows : List Row) (why : Refusal) → length (text_of root name rows) ≤ room

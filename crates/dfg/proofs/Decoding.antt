@@ -1,5 +1,5 @@
 -- What a new instruction's codes and counts say of its checks and its row. Assumes nothing.
-use Rattle.std.proofs.Common.{◌≡◌, ℕ, Bool, true, false, cond, not, ◌&&◌, length, is_some, Some, None, Ok, Err, Option, Result, unwrap_or, ok_or, sym, refl, ap, ◌∙◌, arith}
+use Rattle.std.proofs.Common.{◌≡◌, Bool, true, false, cond, not, ◌&&◌, length, is_some, Some, None, Ok, Err, Option, Result, unwrap_or, ok_or, sym, refl, ap, ◌∙◌}
 use Rattle.std.proofs.lemmas.Result.{err_from_is_err_and}
 use Rattle.std.specs.Result.{IsErrAnd}
 use Rattle.ir.specs.Codes.{known, opcode_at, intcc_at}
@@ -25,14 +25,14 @@ exit_is r why e = let p = err_from_is_err_and r e in p.1 ∙ ap Err p.2
 
 pub unknown_is : {A : Type 0} (o : Option A) (e : Cause) → Err e ≡ known o → (o ≡ None) × (e ≡ Unknown)
 unknown_is None e h = let same : e ≡ Unknown = cc in (refl, same)
-unknown_is (Some x) e h = let z : ◌≡◌ {A = ℕ} 0 1 = cc in absurd (omega arith)
+unknown_is (Some x) e h = cc
 
 pub known_is : {A : Type 0} (o : Option A) (x : A) → Ok x ≡ known o → o ≡ Some x
-known_is None x h = let z : ◌≡◌ {A = ℕ} 0 1 = cc in absurd (omega arith)
+known_is None x h = cc
 known_is (Some y) x h = let same : x ≡ y = cc in ap Some (sym same)
 
 operands_are : (o : Option Operands) (a : Operands) → Ok a ≡ ok_or o WrongCount → o ≡ Some a
-operands_are None a h = let z : ◌≡◌ {A = ℕ} 0 1 = cc in absurd (omega arith)
+operands_are None a h = cc
 operands_are (Some b) a h = let same : a ≡ b = cc in ap Some (sym same)
 
 and_false : (b : Bool) → (b && false) ≡ false

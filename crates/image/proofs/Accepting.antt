@@ -66,7 +66,7 @@ module _ (bs : List ℕ) where
 
   not_refused : (o : Option Refusal) (p : Rows) (why : Refusal) → o ≡ None → NothingGoesRound p → RefusedWith o p why → ⊥
   not_refused None p why e none r = none why.place r.1.goes_round
-  not_refused (Some early) p why e none r = let z : ◌≡◌ {A = ℕ} 0 1 = cc in omega arith
+  not_refused (Some early) p why e none r = cc
 
   one_refusal : (o : Option Refusal) (p : Rows) (v w : Refusal) → RefusedWith o p v → RefusedWith o p w → v ≡ w
   one_refusal (Some early) p v w h k = h ∙ sym k

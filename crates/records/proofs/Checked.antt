@@ -1,5 +1,5 @@
 -- What the answer of a check says of what may stand there. Assumes nothing.
-use Rattle.std.proofs.Common.{◌≡◌, ℕ, Some, None, Ok, Err, Option, Result, MatchResult, refl, arith}
+use Rattle.std.proofs.Common.{◌≡◌, ℕ, Some, None, Ok, Err, Option, Result, MatchResult, refl}
 use Rattle.std.specs.Result.{IsErrAnd}
 use Rattle.ir.specs.declared.refusal.Cause.{Cause}
 use Rattle.ir.specs.declared.refusal.Refusal.{Refusal}
@@ -17,7 +17,7 @@ checked_err (Some v) why e = cc
 module _ (o : Option Cause) (k : ℕ) (r : Result (Unit {0}) Refusal) (Q : Cause → Refusal → Type 0) where
   pub refused : (a : Result (Unit {0}) Cause) → a ≡ checked o → MatchResult a (λ x. r ≡ Ok x) (λ e. IsErrAnd r (Q e)) → ((e : Cause) (w : Refusal) → Q e w → w ≡ record { cause = e; place = k })
       → (w : Refusal) → r ≡ Err w → (why : Cause) × (o ≡ Some why) × (w ≡ record { cause = why; place = k })
-  refused (Ok x) e h placed w is = let z : ◌≡◌ {A = ℕ} 0 1 = cc in absurd (omega arith)
+  refused (Ok x) e h placed w is = cc
   refused (Err why) e h placed w is = (why, checked_err o why e, placed why w (rw is at h))
 
   pub passed : (a : Result (Unit {0}) Cause) → a ≡ checked o → MatchResult a (λ x. r ≡ Ok x) (λ e. IsErrAnd r (Q e)) → (x : Unit {0}) → r ≡ Ok x → o ≡ None

@@ -16,7 +16,7 @@ use Rattle.records.proofs.Indexing.{kept_more, kept_length, with_noted}
 known_kind : (bs : List ℕ) (k : ℕ) (t : Kind) → fault_by bs k t ≡ None → is_value t || is_inst t ≡ true
 known_kind bs k Value e = refl
 known_kind bs k Inst e = refl
-known_kind bs k Unknown e = let z : ◌≡◌ {A = ℕ} 0 1 = cc in absurd (omega arith)
+known_kind bs k Unknown e = cc
 
 pub clean_kind : (bs : List ℕ) (k : ℕ) → record_fault bs k ≡ None → is_value_at bs k || is_inst_at bs k ≡ true
 unfolding record_fault

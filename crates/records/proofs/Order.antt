@@ -83,7 +83,7 @@ kinds_exclude Unknown h = absurd (false≢true h)
 -- where none of a list of checks stands, the first does not, and none of the others
 pub none_first : (b : Bool) (why : Cause) (rest : Option Cause) → cond (not b) (Some why) rest ≡ None → (b ≡ true) × (rest ≡ None)
 none_first true why rest e = (refl, e)
-none_first false why rest e = let z : ◌≡◌ {A = ℕ} 0 1 = cc in absurd (omega arith)
+none_first false why rest e = cc
 
 -- a value record that nothing stands against is behind no instruction
 value_first : (bs : List ℕ) (k : ℕ) (t : Kind) → fault_by bs k t ≡ None → is_value t ≡ true → behind_inst bs k ≡ false
@@ -98,7 +98,7 @@ module _ (bs : List ℕ) (none : records_refusal bs ≡ None) where
     where
       at : (b : Bool) → is_whole bs ≡ b → is_whole bs ≡ true
       at true e = e
-      at false e = let f = not_whole bs e in let z : ◌≡◌ {A = ℕ} 0 1 = cc in absurd (omega arith)
+      at false e = let f = not_whole bs e in cc
 
   pub clean_at : (k : ℕ) → k < record_count bs → record_fault bs k ≡ None
   clean_at k l = none_stands (record_fault bs) (record_count bs) 0 (sym (whole bs clean_whole) ∙ none) k (omega arith) (omega arith)
