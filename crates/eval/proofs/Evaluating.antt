@@ -1,5 +1,5 @@
 -- One value more for the visitors, and whole walks. Assumes nothing.
-use Rattle.std.proofs.Common.{◌≡◌, ℕ, ◌<◌, ◌≤◌, Bool, true, false, cond, ◌&&◌, List, [], ◌∷◌, ◌++◌, map, length, get_or, set, find, is_none, Some, None, Ok, Err, Option, Result, sym, refl, ap, ◌∙◌, subst, ⊎_elim, arith}
+use Rattle.std.proofs.Common.{◌≡◌, ℕ, ◌<◌, ◌≤◌, Bool, true, false, cond, ◌&&◌, List, [], ◌∷◌, ◌++◌, length, get_or, set, find, is_none, Some, None, Ok, Err, Option, Result, sym, refl, ap, ◌∙◌, subst, ⊎_elim, arith}
 use Rattle.std.proofs.lemmas.List.{get_or-set_same, get_or-set_other}
 use Rattle.std.proofs.lemmas.List.Folds.{find-append, list_all-append}
 use Rattle.std.proofs.lemmas.Bool.{both_ways, or_right}
@@ -16,7 +16,7 @@ use Rattle.flow.specs.Rounds.{all_of}
 use Rattle.flow.specs.Walk.{Topological, walk}
 use Rattle.flow.specs.declared.definition.ValueDef.{ValueDef}
 use Rattle.flow.specs.declared.definition.ValueDef.TheVariants.{Constant, Operation, Variable, Deleted}
-use Rattle.flow.proofs.Among.{has_here, has_push, has_push_cases}
+use Rattle.flow.proofs.Among.{has_here, has_push, has_push_cases, map_among}
 use Rattle.flow.proofs.Paths.{live_exists}
 use Rattle.flow.proofs.Places.{topological_left, topological_new, topological_operands, walk_topological}
 use Rattle.flow.proofs.Unfolds.{number_unfolds}
@@ -52,14 +52,10 @@ module _ (g g' : Flow) (inputs inputs' shown : List ℕ) (v : ℕ) (f : Fitting 
 -- ---- numbers
 
 -- numbers that agree on the operands give the same number
-map_agree : (f h : ℕ → Option ℕ) (vs : List ℕ) → ((u : ℕ) → has vs u ≡ true → f u ≡ h u) → map f vs ≡ map h vs
-map_agree f h [] same = refl
-map_agree f h (v ∷ vs) same = λ i. same v (has_here v vs) i ∷ map_agree f h vs (λ u m. same u (or_right _ _ m)) i
-
 def_agree : (g : Flow) (inputs : ℕ → ℕ) (f h : ℕ → Option ℕ) (n : Node) (d : ValueDef) → ((u : ℕ) → has (used d) u ≡ true → f u ≡ h u) → def_number g inputs f n d ≡ def_number g inputs h n d
 def_agree g inputs f h n (Constant z) same = refl
 def_agree g inputs f h n (Operation o c args) same =
-    ap (λ (l : List (Option ℕ)). and_then (all_of l) (compute o c n.width (width_of g (get_or (values args) 0 0)))) (map_agree f h (values args) same)
+    ap (λ (l : List (Option ℕ)). and_then (all_of l) (compute o c n.width (width_of g (get_or (values args) 0 0)))) (map_among f h (values args) same)
 def_agree g inputs f h n Variable same = refl
 def_agree g inputs f h n Deleted same = refl
 

@@ -1,5 +1,7 @@
-use Rattle.std.proofs.Common.{length, le_trans, sym, refl, ap, ◌∙◌, length-append, rules}
+use Rattle.std.proofs.Common.{◌≡◌, ℕ, ◌≤◌, List, length, le_trans, sym, refl, ap, ◌∙◌, length-append, rules}
+use Rattle.ir.specs.declared.entities.Value.{Value}
 use Rattle.souper.specs.Rows.{row_at}
+use Rattle.souper.specs.declared.rows.Row.{Row}
 use Rattle.text.specs.Buffer.{put}
 use Rattle.text.specs.Text.{ending, row_line, text_of}
 use Rattle.text.proofs.Buffers.{put_behind, put_length, put_over, put_within}
@@ -9,19 +11,18 @@ use Rattle.text.proofs.candidate.write_text.Goals as goal
 pub loop-number-init : goal.loop-number-init
 loop-number-init c = c.write_heading-at.ensures ∙ ap (λ l. put l (0, c.args.text.now)) (text_begins c.args.root c.args.name.now c.args.rows.now)
 
+-- what was written ends within the buffer
+within : (root : Value) (name : List ℕ) (rows : List Row) (was text : List ℕ) (r at : ℕ) → length (text_of root name rows) ≤ length was
+    → (at, text) ≡ put (text_before root name rows r) (0, was) → at ≤ length text
+within root name rows was text r at room so_far = put_within _ _ _ _ (le_trans (text_before_fits root name rows r) room) so_far
+
 -- ---- the next row's line goes into the rest
 
 pub slice_bounds-write_row-count : goal.slice_bounds-write_row-count
-slice_bounds-write_row-count c =
-    let a = c.args in
-    let room = le_trans (text_before_fits a.root a.name.now a.rows.now c.loop-number.number) c.requires in
-    put_within _ _ _ _ room c.loop-number.invariant
+slice_bounds-write_row-count c = within c.args.root c.args.name.now c.args.rows.now _ _ c.loop-number.number _ c.requires c.loop-number.invariant
 
 pub slice_bounds-write_row-start : goal.slice_bounds-write_row-start
-slice_bounds-write_row-start c =
-    let a = c.args in
-    let room = le_trans (text_before_fits a.root a.name.now a.rows.now c.loop-number.number) c.requires in
-    put_within _ _ _ _ room c.loop-number.invariant
+slice_bounds-write_row-start c = within c.args.root c.args.name.now c.args.rows.now _ _ c.loop-number.number _ c.requires c.loop-number.invariant
 
 pub overflow_add-at : goal.overflow_add-at
 overflow_add-at c =
@@ -42,16 +43,10 @@ loop-number-preserved c =
 -- ---- and so does the ending
 
 pub slice_bounds-write_ending-count : goal.slice_bounds-write_ending-count
-slice_bounds-write_ending-count c =
-    let a = c.args in
-    let room = le_trans (text_before_fits a.root a.name.now a.rows.now c.loop-number.number) c.requires in
-    put_within _ _ _ _ room c.loop-number.invariant
+slice_bounds-write_ending-count c = within c.args.root c.args.name.now c.args.rows.now _ _ c.loop-number.number _ c.requires c.loop-number.invariant
 
 pub slice_bounds-write_ending-start : goal.slice_bounds-write_ending-start
-slice_bounds-write_ending-start c =
-    let a = c.args in
-    let room = le_trans (text_before_fits a.root a.name.now a.rows.now c.loop-number.number) c.requires in
-    put_within _ _ _ _ room c.loop-number.invariant
+slice_bounds-write_ending-start c = within c.args.root c.args.name.now c.args.rows.now _ _ c.loop-number.number _ c.requires c.loop-number.invariant
 
 pub overflow_add-result : goal.overflow_add-result
 overflow_add-result c =
