@@ -1,4 +1,5 @@
 pub mod Accepting
+pub mod Firsts
 pub mod Fitting
 pub mod GoingRound
 pub mod Held
