@@ -16,7 +16,7 @@ mod blocks;
 mod check;
 mod digraphs;
 pub mod graph;
-pub mod image_rows;
+mod image_rows;
 mod laws;
 pub mod queries;
 mod reading;
