@@ -7,6 +7,7 @@ ghost use Rattle.ir.specs.Printed.{operands_text};
 use crate::entities::Value;
 use crate::refusal::Cause;
 use std::fmt;
+use std::marker::Model;
 
 /// The operands of an instruction, in order.
 #[derive(Clone, Copy, PartialEq, Eq, Debug)]
@@ -32,7 +33,7 @@ impl Operands {
 
     /// The operands one by one, from either end.
     pub fn iter(self) -> Args
-        ensures { result.rest ≡ self }
+        ensures { result ≡ self }
     {
         Args { rest: self }
     }
@@ -60,7 +61,7 @@ impl IntoIterator for Operands {
 
     type IntoIter = Args;
 
-    ghost into_iter_gives = { λ args it. it.rest ≡ args };
+    ghost into_iter_gives = { λ args it. it ≡ args };
 
     fn into_iter(self) -> Args {
         self.iter()
@@ -88,12 +89,23 @@ pub struct Args {
     rest: Operands,
 }
 
+// Contracts see the operands that are still to come.
+impl Model for Args {
+    ghost use Rattle.ir.specs.declared.instructions.Operands.{Operands};
+
+    ghost Value = { Operands };
+
+    ghost view = { λ args. args.rest };
+
+    ghost inverse = { λ rest. record { rest = rest } };
+}
+
 impl Iterator for Args {
     type Item = Value;
 
-    ghost next_gives = { YieldsFirstBy (λ v. v.0) (λ s. values s.rest) };
+    ghost next_gives = { YieldsFirstBy (λ v. v.0) values };
 
-    ghost remaining = { item_count (λ s. values s.rest) };
+    ghost remaining = { item_count values };
 
     fn next(&mut self) -> Option<Value> {
         let (first, rest) = match self.rest {
@@ -108,7 +120,7 @@ impl Iterator for Args {
 }
 
 impl DoubleEndedIterator for Args {
-    ghost next_back_gives = { YieldsLastBy (λ v. v.0) (λ s. values s.rest) };
+    ghost next_back_gives = { YieldsLastBy (λ v. v.0) values };
 
     fn next_back(&mut self) -> Option<Value> {
         let (last, rest) = match self.rest {

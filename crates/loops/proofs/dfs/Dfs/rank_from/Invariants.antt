@@ -11,4 +11,4 @@ decreases-loop-v g l = 4 * unopened l.self.states + array_vec_len l.self.stack
 -- there is room for the targets that are left
 abbrev pub invariant-loop-w : goal.invariant-loop-w
 invariant-loop-w g l =
-    (array_vec_len l.self.stack + length (values l.w-iterator.rest) ≤ array_vec_len l.initial.self.stack + 3) × (l.self.states ≡ l.initial.self.states)
+    (array_vec_len l.self.stack + length (values l.w-iterator) ≤ array_vec_len l.initial.self.stack + 3) × (l.self.states ≡ l.initial.self.states)

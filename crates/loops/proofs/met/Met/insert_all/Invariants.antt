@@ -5,4 +5,4 @@ use Rattle.loops.proofs.met.Met.insert_all.Given as goal
 
 -- the targets that are left do the rest
 abbrev pub invariant-loop-w : goal.invariant-loop-w
-invariant-loop-w l = meet_all 1024 l.self (values l.w-iterator.rest) ≡ meet_all 1024 l.fn.self (values l.fn.targets)
+invariant-loop-w l = meet_all 1024 l.self (values l.w-iterator) ≡ meet_all 1024 l.fn.self (values l.fn.targets)
