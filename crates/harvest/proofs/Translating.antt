@@ -7,12 +7,15 @@ use Rattle.flow.specs.Walk.{Topological, In}
 use Rattle.flow.proofs.Among.{all_among, has_push, has_push_cases, distinct_length}
 use Rattle.flow.proofs.Paths.{live_exists}
 use Rattle.flow.proofs.Places.{has_in, in_has, topological_left, topological_new, topological_in, topological_ordered}
-use Rattle.souper.specs.Translation.{Shape, has_row, no_row, rows_as, shape, row_count, row_count_of, row_of, operand_at, operand_of, shape_rows, value_rows, translation, added_rows}
+use Rattle.souper.specs.Translation.{Shape, has_row, no_row, rows_as, shape, row_count, row_count_of, row_of, operand_at, operand_of, select_rows, form_rows, shape_rows, value_rows, translation, added_rows}
+use Rattle.souper.specs.declared.form.Form.{Form}
+use Rattle.souper.specs.declared.form.Form.TheVariants.{Untranslated, Plain, Inverted, Selected, Compared}
+use Rattle.souper.specs.declared.rows.Operand.{Operand}
 use Rattle.souper.specs.declared.rows.Operand.TheVariants as operand
 use Rattle.souper.specs.declared.rows.Row.{Row}
 use Rattle.souper.proofs.Grows.{start_push, start_push_self, start_past, rows_same, translation_grows}
 use Rattle.souper.proofs.Places.{shape_length, value_length, translation_few}
-use Rattle.harvest.specs.Placed.{placed_operand}
+use Rattle.harvest.specs.Placed.{placed_operand, put}
 use Rattle.harvest.specs.Translated.{Translates, Follows, NeverFull}
 
 -- ---- writing behind the rows that were written
@@ -22,12 +25,12 @@ write_one before rows p len row e is lt =
     ap (λ l. set l len row) (is ∙ ap (λ l. p ++ l) (drop_more before len row lt))
     ∙ set_at p (get_or before len row) (drop (len + 1) before) row len e ∙ sym (append_assoc p (row ∷ []) (drop (len + 1) before))
 
-write_two : (before rows p : List Row) (len : ℕ) (helper row : Row) → length p ≡ len → rows ≡ p ++ drop len before → len + 1 < length before
-    → set (set rows len helper) (len + 1) row ≡ (p ++ (helper ∷ row ∷ [])) ++ drop (len + 2) before
-write_two before rows p len helper row e is lt =
-    let two : len + 1 + 1 ≡ len + 2 = omega arith in
-    write_one before (set rows len helper) (p ++ (helper ∷ [])) (len + 1) row (omega (arith, length_push p helper)) (write_one before rows p len helper e is (omega arith)) lt
-    ∙ ap₂ (λ (l : List Row) (n : ℕ). l ++ drop n before) (append_assoc p (helper ∷ []) (row ∷ [])) two
+write_more : (before rows p l : List Row) (len : ℕ) → length p ≡ len → rows ≡ p ++ drop len before → len + length l ≤ length before
+    → put rows len l ≡ (p ++ l) ++ drop (len + length l) before
+write_more before rows p [] len e is fits = is ∙ ap₂ (λ (q : List Row) (n : ℕ). q ++ drop n before) (sym (append-nil p)) (omega arith)
+write_more before rows p (row ∷ l) len e is fits =
+    write_more before (set rows len row) (p ++ (row ∷ [])) l (len + 1) (omega (arith, length_push p row)) (write_one before rows p len row e is (omega arith)) (omega arith)
+    ∙ ap₂ (λ (q : List Row) (n : ℕ). q ++ drop n before) (append_assoc p (row ∷ []) l) (omega arith)
 
 -- ---- a value as an operand
 
@@ -135,25 +138,35 @@ never_full g g' lawful before from shown rows places len v why f none room t =
     let c = same_length g lawful before shown v t rows places len is room in
     ⊎_elim (λ h. omega arith) (λ w. ⊎_elim (λ h. omega (arith, lawful.few)) (λ h. omega arith) w) why
 
--- The three ways of one value more: no row, its own, or a helper and its own.
-module _ (g g' : Flow) (lawful : Lawful g) (before : List Row) (from : ℕ) (shown : List ℕ) (rows : List Row) (places : List ℕ) (len v : ℕ) where
-  pub follows_empty : [] ≡ shape_rows (placed_operand g' places) (width_of g' v) len (shape g' v)
-      → Follows g before from shown g' rows places len → Follows g before from (shown ++ (v ∷ [])) g' rows places len
-  follows_empty lines f =
-      follows_more g g' lawful before from shown rows places len v [] rows places len lines (omega arith)
-      (λ room p long is. is ∙ ap (λ q. q ++ drop len before) (sym (append-nil p))) (λ u ne. refl) (λ some. absurd (omega arith)) f
+-- ---- no value has more than two rows
 
-  module _ (table : v < length places) (two : len + 2 ≤ length rows) where
-    pub follows_single : (row : Row) (own : ℕ) → own ≡ len → row ∷ [] ≡ shape_rows (placed_operand g' places) (width_of g' v) len (shape g' v)
-        → Follows g before from shown g' rows places len → Follows g before from (shown ++ (v ∷ [])) g' (set rows len row) (set places v own) (len + 1)
-    follows_single row own is lines f =
-        follows_more g g' lawful before from shown rows places len v (row ∷ []) (set rows len row) (set places v own) (len + 1) lines refl
-        (λ room p long is. write_one before rows p len row long is (omega (arith, ap length is, length-append p (drop len before), length-drop len before)))
-        (λ u ne. get_or-set_other places v u own 0 ne) (λ some. ap (λ n. n + 1) (get_or-set_same places v own 0 table ∙ is)) f
+select_few : (w start : ℕ) (condition x y : Operand) → length (select_rows w start condition x y) ≤ 2
+select_few w start (operand.Row r) x y = omega arith
+select_few w start (operand.Constant z v) x y = omega arith
+select_few w start operand.Zero x y = omega arith
 
-    pub follows_pair : (helper row : Row) (own : ℕ) → own ≡ len + 1 → helper ∷ row ∷ [] ≡ shape_rows (placed_operand g' places) (width_of g' v) len (shape g' v)
-        → Follows g before from shown g' rows places len → Follows g before from (shown ++ (v ∷ [])) g' (set (set rows len helper) (len + 1) row) (set places v own) (len + 2)
-    follows_pair helper row own is lines f =
-        follows_more g g' lawful before from shown rows places len v (helper ∷ row ∷ []) (set (set rows len helper) (len + 1) row) (set places v own) (len + 2) lines refl
-        (λ room p long is. write_two before rows p len helper row long is (omega (arith, ap length is, length-append p (drop len before), length-drop len before)))
-        (λ u ne. get_or-set_other places v u own 0 ne) (λ some. omega (arith, get_or-set_same places v own 0 table, is)) f
+form_few : (of : ℕ → Operand) (w start : ℕ) (f : Form) (vs : List ℕ) → length (form_rows of w start f vs) ≤ 2
+form_few of w start Untranslated vs = omega arith
+form_few of w start (Plain word) vs = omega arith
+form_few of w start Inverted vs = omega arith
+form_few of w start Selected vs = select_few w start (of (get_or vs 0 0)) (of (get_or vs 1 0)) (of (get_or vs 2 0))
+form_few of w start (Compared word) vs = omega arith
+
+shape_few : (of : ℕ → Operand) (w start : ℕ) (s : Shape) → length (shape_rows of w start s) ≤ 2
+shape_few of w start (no_row z) = omega arith
+shape_few of w start (rows_as f vs) = form_few of w start f vs
+
+-- The rows of one value more are put behind those that were written, and the last of them is its own.
+pub follows_put : (g g' : Flow) → Lawful g → (before : List Row) (from : ℕ) (shown : List ℕ) (rows : List Row) (places : List ℕ) (len v own : ℕ) (rows' : List Row) (len' : ℕ)
+    → v < length places → len + 2 ≤ length rows
+    → rows' ≡ put rows len (shape_rows (placed_operand g' places) (width_of g' v) len (shape g' v))
+    → len' ≡ len + length (shape_rows (placed_operand g' places) (width_of g' v) len (shape g' v)) → own ≡ len' - 1
+    → Follows g before from shown g' rows places len → Follows g before from (shown ++ (v ∷ [])) g' rows' (set places v own) len'
+follows_put g g' lawful before from shown rows places len v own rows' len' table two puts end is f =
+    let l = shape_rows (placed_operand g' places) (width_of g' v) len (shape g' v) in
+    let few = shape_few (placed_operand g' places) (width_of g' v) len (shape g' v) in
+    follows_more g g' lawful before from shown rows places len v l rows' (set places v own) len' refl end
+    (λ room p long rest.
+      puts ∙ write_more before rows p l len long rest (omega (arith, few, two, ap length rest, length-append p (drop len before), length-drop len before))
+      ∙ ap (λ n. (p ++ l) ++ drop n before) (sym end))
+    (λ u ne. get_or-set_other places v u own 0 ne) (λ some. omega (arith, get_or-set_same places v own 0 table, is, end)) f

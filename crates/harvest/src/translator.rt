@@ -4,7 +4,7 @@ ghost use Rattle.harvest.specs.Counting.{CountedMore, counted_none};
 ghost use Rattle.harvest.specs.Translated.{Follows, follows_none, NeverFull};
 
 use crate::counter::counted_on;
-use crate::value_rows::{Placed, ValueRows};
+use crate::value_rows::Placed;
 use crate::written::ROWS;
 use flow::FlowGraph;
 use ir::Value;
@@ -46,23 +46,11 @@ impl<G: FlowGraph> Visitor for Translator<'_, '_, G> {
             graph: self.graph,
             places: &self.places,
         };
-        let (rows, counts) = placed.value_rows(v, self.len);
-        let own = rows.own_row(self.len);
+        let (end, counts) = placed.put_value(v, self.len, self.rows);
         self.counted = counted_on(self.counted, counts);
-        match rows {
-            ValueRows::Empty => {}
-            ValueRows::Single(row) => {
-                self.rows[self.len as usize] = row;
-                self.places[v.0 as usize] = own;
-                self.len += 1;
-            }
-            ValueRows::Pair(helper, row) => {
-                self.rows[self.len as usize] = helper;
-                self.rows[self.len as usize + 1] = row;
-                self.places[v.0 as usize] = own;
-                self.len += 2;
-            }
-        }
+        // its own row is the last of its rows; of a constant, which has none, no place is ever read
+        self.places[v.0 as usize] = end.saturating_sub(1);
+        self.len = end;
         Ok(())
     }
 }

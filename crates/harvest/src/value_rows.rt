@@ -1,37 +1,16 @@
 // The rows of one value.
-ghost use Rattle.std.specs.Prelude.{◌≡◌, ◌+◌, ◌-◌, ◌^◌, ◌<◌, length, map, slice_index};
+ghost use Rattle.std.specs.Prelude.{◌≡◌, ◌+◌, ◌^◌, ◌<◌, ◌≤◌, length, map, slice_index};
 ghost use Rattle.ir.specs.Entities.{values};
 ghost use Rattle.flow.specs.Meaning.{width_of};
 ghost use Rattle.souper.specs.Counted.{is_counted};
 ghost use Rattle.souper.specs.Rows.{given};
 ghost use Rattle.souper.specs.Translation.{def_form, form_rows, select_row, select_rows, shape, shape_of, shape_rows, word_row};
-ghost use Rattle.harvest.specs.Placed.{placed_operand, rows_of};
+ghost use Rattle.harvest.specs.Placed.{placed_operand, put};
 
 use crate::forms::form_of;
 use flow::{FlowGraph, ValueDef, value_definition};
 use ir::{Operands, Value, Word};
 use souper::{Form, Operand, Row, RowOperands};
-
-/// The rows of one value: none for a constant, its own, or a helper and its own.
-#[derive(Clone, Copy, PartialEq, Eq, Debug)]
-pub(crate) enum ValueRows {
-    Empty,
-    Single(Row),
-    Pair(Row, Row),
-}
-
-impl ValueRows {
-    /// The row of the value itself, the last of its rows, where they begin at the row `start`.
-    #[inline(always)]
-    pub(crate) fn own_row(self, start: u32) -> u32
-        ensures { start + 1 < 2 ^ 32 → result ≡ start + (length (rows_of self) - 1) }
-    {
-        match self {
-            ValueRows::Empty | ValueRows::Single(_) => start,
-            ValueRows::Pair(_, _) => start.saturating_add(1),
-        }
-    }
-}
 
 /// A graph with the rows that its values have in a table.
 #[derive(Drop)]
@@ -82,67 +61,85 @@ impl<G: FlowGraph> Placed<'_, G> {
         }
     }
 
-    /// The rows of a form over the operands of an operation, from the row `start` on.
+    /// Puts the rows of a form over the operands of an operation into `rows`, from the row `start` on, and answers where they end.
     #[inline(always)]
-    fn form_rows(&self, form: Form, args: Operands, width: u8, start: u32) -> ValueRows
-        ensures { rows_of result ≡ form_rows (placed_operand (G.meaning self.now.graph.now) self.now.places.now) width start form (values args) }
+    fn put_form(&self, form: Form, args: Operands, width: u8, start: u32, rows: &mut [Row]) -> u32
+        requires room { start + 2 ≤ length rows.old }
+        requires small { start + 2 < 2 ^ 32 }
+        ensures put { rows.new ≡ put rows.old start (form_rows (placed_operand (G.meaning self.now.graph.now) self.now.places.now) width start form (values args)) }
+        ensures end { result ≡ start + length (form_rows (placed_operand (G.meaning self.now.graph.now) self.now.places.now) width start form (values args)) }
     {
+        let at = start as usize;
         let (a, b, c) = three(args);
         match form {
-            Form::Untranslated => ValueRows::Single(Row {
-                width,
-                word: Word::Var,
-                operands: RowOperands::Empty,
-            }),
-            Form::Plain(word) => ValueRows::Single(self.word_row(width, word, args)),
-            Form::Inverted => ValueRows::Single(Row {
-                width,
-                word: Word::Xor,
-                operands: RowOperands::Two(self.operand(a), Operand::Constant(-1, width)),
-            }),
-            Form::Selected => select_rows(
-                width,
-                start,
-                self.operand(a),
-                self.operand(b),
-                self.operand(c),
-            ),
-            Form::Compared(word) => ValueRows::Pair(
-                self.word_row(1, word, args),
-                Row {
+            Form::Untranslated => {
+                rows[at] = Row {
+                    width,
+                    word: Word::Var,
+                    operands: RowOperands::Empty,
+                };
+                start + 1
+            }
+            Form::Plain(word) => {
+                rows[at] = self.word_row(width, word, args);
+                start + 1
+            }
+            Form::Inverted => {
+                rows[at] = Row {
+                    width,
+                    word: Word::Xor,
+                    operands: RowOperands::Two(self.operand(a), Operand::Constant(-1, width)),
+                };
+                start + 1
+            }
+            Form::Selected => {
+                let (x, y) = (self.operand(b), self.operand(c));
+                put_select(width, start, self.operand(a), x, y, rows)
+            }
+            Form::Compared(word) => {
+                rows[at] = self.word_row(1, word, args);
+                rows[at + 1] = Row {
                     width,
                     word: Word::Zext,
                     operands: RowOperands::One(Operand::Row(start)),
-                },
-            ),
-        }
-    }
-
-    /// The rows of what `def` defines, by its form.
-    #[inline(always)]
-    fn def_rows(&self, def: ValueDef, form: Form, width: u8, start: u32) -> ValueRows
-        ensures { form ≡ def_form (G.meaning self.now.graph.now) def → rows_of result ≡ shape_rows (placed_operand (G.meaning self.now.graph.now) self.now.places.now) width start (shape_of (G.meaning self.now.graph.now) def) }
-    {
-        match def {
-            ValueDef::Constant(_) => ValueRows::Empty,
-            ValueDef::Operation { args, .. } => self.form_rows(form, args, width, start),
-            ValueDef::Variable | ValueDef::Deleted => {
-                self.form_rows(form, Operands::Nullary, width, start)
+                };
+                start + 2
             }
         }
     }
 
-    /// The rows of the value `v`, from the row `start` on, where the table has the rows of what it uses; and whether it is counted.
+    /// Puts the rows of what `def` defines into `rows`, by its form, from the row `start` on, and answers where they end.
     #[inline(always)]
-    pub(crate) fn value_rows(&self, v: Value, start: u32) -> (ValueRows, bool)
-        ensures rows { rows_of result.0 ≡ shape_rows (placed_operand (G.meaning self.now.graph.now) self.now.places.now) (width_of (G.meaning self.now.graph.now) v.0) start (shape (G.meaning self.now.graph.now) v.0) }
+    fn put_def(&self, def: ValueDef, form: Form, width: u8, start: u32, rows: &mut [Row]) -> u32
+        requires room { start + 2 ≤ length rows.old }
+        requires small { start + 2 < 2 ^ 32 }
+        ensures put { form ≡ def_form (G.meaning self.now.graph.now) def → rows.new ≡ put rows.old start (shape_rows (placed_operand (G.meaning self.now.graph.now) self.now.places.now) width start (shape_of (G.meaning self.now.graph.now) def)) }
+        ensures end { form ≡ def_form (G.meaning self.now.graph.now) def → result ≡ start + length (shape_rows (placed_operand (G.meaning self.now.graph.now) self.now.places.now) width start (shape_of (G.meaning self.now.graph.now) def)) }
+    {
+        match def {
+            ValueDef::Constant(_) => start,
+            ValueDef::Operation { args, .. } => self.put_form(form, args, width, start, rows),
+            ValueDef::Variable | ValueDef::Deleted => {
+                self.put_form(form, Operands::Nullary, width, start, rows)
+            }
+        }
+    }
+
+    /// Puts the rows of the value `v` into `rows`, from the row `start` on, where the table has the rows of what it uses; answers where
+    /// they end, and whether the value is counted.
+    #[inline(always)]
+    pub(crate) fn put_value(&self, v: Value, start: u32, rows: &mut [Row]) -> (u32, bool)
+        requires room { start + 2 ≤ length rows.old }
+        requires small { start + 2 < 2 ^ 32 }
+        ensures put { rows.new ≡ put rows.old start (shape_rows (placed_operand (G.meaning self.now.graph.now) self.now.places.now) (width_of (G.meaning self.now.graph.now) v.0) start (shape (G.meaning self.now.graph.now) v.0)) }
+        ensures end { result.0 ≡ start + length (shape_rows (placed_operand (G.meaning self.now.graph.now) self.now.places.now) (width_of (G.meaning self.now.graph.now) v.0) start (shape (G.meaning self.now.graph.now) v.0)) }
         ensures counts { result.1 ≡ is_counted (shape (G.meaning self.now.graph.now) v.0) }
     {
         let def = value_definition(self.graph, v);
         let form = form_of(self.graph, def);
         let width = self.graph.value_type(v).bits();
-        let rows = self.def_rows(def, form, width, start);
-        (rows, form.is_translated())
+        let end = self.put_def(def, form, width, start, rows);
+        (end, form.is_translated())
     }
 }
 
@@ -174,24 +171,34 @@ fn select_row(width: u8, condition: Operand, x: Operand, y: Operand) -> Row
     }
 }
 
-/// The rows of a select: over a row with a helper at the row `start`, over a constant without.
+/// Puts the rows of a select into `rows`, from the row `start` on, and answers where they end: over a row there is a helper, over a
+/// constant none.
 #[inline(always)]
-fn select_rows(width: u8, start: u32, condition: Operand, x: Operand, y: Operand) -> ValueRows
-    ensures { rows_of result ≡ select_rows width start condition x y }
+fn put_select(width: u8, start: u32, condition: Operand, x: Operand, y: Operand, rows: &mut [Row]) -> u32
+    requires room { start + 2 ≤ length rows.old }
+    requires small { start + 2 < 2 ^ 32 }
+    ensures put { rows.new ≡ put rows.old start (select_rows width start condition x y) }
+    ensures end { result ≡ start + length (select_rows width start condition x y) }
 {
+    let at = start as usize;
     match condition {
-        Operand::Row(_) => ValueRows::Pair(
-            Row {
+        Operand::Row(_) => {
+            rows[at] = Row {
                 width: 1,
                 word: Word::Ne,
                 operands: RowOperands::Two(condition, Operand::Zero),
-            },
-            select_row(width, Operand::Row(start), x, y),
-        ),
+            };
+            rows[at + 1] = select_row(width, Operand::Row(start), x, y);
+            start + 2
+        }
         Operand::Constant(imm, _) => {
             let chosen = Operand::Constant(i64::from(imm != 0), 1);
-            ValueRows::Single(select_row(width, chosen, x, y))
+            rows[at] = select_row(width, chosen, x, y);
+            start + 1
         }
-        Operand::Zero => ValueRows::Single(select_row(width, Operand::Constant(0, 1), x, y)),
+        Operand::Zero => {
+            rows[at] = select_row(width, Operand::Constant(0, 1), x, y);
+            start + 1
+        }
     }
 }
