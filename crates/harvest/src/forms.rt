@@ -1,25 +1,11 @@
 // How the values of a graph are translated.
 ghost use Rattle.std.specs.Prelude.{◌≡◌};
-ghost use Rattle.ir.specs.Entities.{values};
 ghost use Rattle.souper.specs.Counted.{is_counted};
-ghost use Rattle.souper.specs.Translation.{same_widths, def_form, shape};
+ghost use Rattle.souper.specs.Translation.{def_form, shape};
 
 use flow::{FlowGraph, ValueDef, value_definition};
-use ir::{Operands, Value};
+use ir::Value;
 use souper::Form;
-
-/// Whether the first two operands have one width.
-#[inline(always)]
-fn same_widths<G: FlowGraph>(graph: &G, args: Operands) -> bool
-    ensures { result ≡ same_widths (G.meaning graph.now) (values args) }
-{
-    match args {
-        Operands::Nullary | Operands::Unary(_) => false,
-        Operands::Binary(a, b) | Operands::Ternary(a, b, _) => {
-            graph.value_type(a).bits() == graph.value_type(b).bits()
-        }
-    }
-}
 
 /// How what `def` defines is translated.
 #[inline(always)]
@@ -28,7 +14,7 @@ pub(crate) fn form_of<G: FlowGraph>(graph: &G, def: ValueDef) -> Form
 {
     match def {
         ValueDef::Operation { opcode, cond, args } => {
-            Form::of(opcode, cond, same_widths(graph, args))
+            Form::of(graph, opcode, cond, args)
         }
         ValueDef::Constant(_) | ValueDef::Variable | ValueDef::Deleted => Form::Untranslated,
     }

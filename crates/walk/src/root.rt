@@ -38,8 +38,8 @@ impl<G: FlowGraph> LiveRoot<'_, G> {
     /// Shows `visitor` what the root reaches, each value once and after what it uses, and answers the steps taken.
     ///
     /// The bytes lent are zero at the return, also where the visitor stopped the walk.
-    // No walk takes more steps than 1 + the values + 3 operands of each. A stack is cleared as it is made, so a small graph
-    // has a small one.
+    // No walk takes more steps than 1 + the values + 3 operands of each. A stack is cleared as it is made, and that took most of
+    // the time of a walk of a small graph: so the stack is as large as the graph asks for.
     pub(crate) fn walk<V: Visitor>(
         &self,
         bytes: &mut [u8; MARKS],
@@ -48,10 +48,12 @@ impl<G: FlowGraph> LiveRoot<'_, G> {
         ensures ended { Ended (G.meaning self.now.graph.now) self.now.value.0 (λ shown. V.fits visitor.old shown visitor.new) (λ shown. V.stops visitor.old shown visitor.new) result }
         ensures cleared { bytes.new ≡ replicate 1024 0 }
     {
-        if self.graph.num_values() <= 64 {
-            self.walk_over::<V, 257>(bytes, visitor)
-        } else {
-            self.walk_over::<V, 4097>(bytes, visitor)
+        match self.graph.num_values() {
+            0..=64 => self.walk_over::<V, 257>(bytes, visitor),
+            65..=128 => self.walk_over::<V, 513>(bytes, visitor),
+            129..=256 => self.walk_over::<V, 1025>(bytes, visitor),
+            257..=512 => self.walk_over::<V, 2049>(bytes, visitor),
+            _ => self.walk_over::<V, 4097>(bytes, visitor),
         }
     }
 
