@@ -167,6 +167,6 @@ follows_put g g' lawful before from shown rows places len v own rows' len' table
     let few = shape_few (placed_operand g' places) (width_of g' v) len (shape g' v) in
     follows_more g g' lawful before from shown rows places len v l rows' (set places v own) len' refl end
     (λ room p long rest.
-      puts ∙ write_more before rows p l len long rest (omega (arith, few, two, ap length rest, length-append p (drop len before), length-drop len before))
-      ∙ ap (λ n. (p ++ l) ++ drop n before) (sym end))
+    puts ∙ write_more before rows p l len long rest (omega (arith, few, two, ap length rest, length-append p (drop len before), length-drop len before))
+    ∙ ap (λ n. (p ++ l) ++ drop n before) (sym end))
     (λ u ne. get_or-set_other places v u own 0 ne) (λ some. omega (arith, get_or-set_same places v own 0 table, is, end)) f

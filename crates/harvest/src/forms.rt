@@ -8,14 +8,13 @@ use ir::Value;
 use souper::Form;
 
 /// How what `def` defines is translated.
+// Inlined, since a harvest asks for each value of each walk.
 #[inline(always)]
 pub(crate) fn form_of<G: FlowGraph>(graph: &G, def: ValueDef) -> Form
     ensures { result ≡ def_form (G.meaning graph.now) def }
 {
     match def {
-        ValueDef::Operation { opcode, cond, args } => {
-            Form::of(graph, opcode, cond, args)
-        }
+        ValueDef::Operation { opcode, cond, args } => { Form::of(graph, opcode, cond, args) }
         ValueDef::Constant(_) | ValueDef::Variable | ValueDef::Deleted => Form::Untranslated,
     }
 }

@@ -1,4 +1,7 @@
 // The rows of one value.
+//
+// A row is large. What follows is inlined, so that a row is put together in the table itself, and copied nowhere: most of the time of a harvest
+// goes here.
 ghost use Rattle.std.specs.Prelude.{◌≡◌, ◌+◌, ◌^◌, ◌<◌, ◌≤◌, length, map, slice_index};
 ghost use Rattle.ir.specs.Entities.{values};
 ghost use Rattle.flow.specs.Meaning.{width_of};
@@ -174,7 +177,14 @@ fn select_row(width: u8, condition: Operand, x: Operand, y: Operand) -> Row
 /// Puts the rows of a select into `rows`, from the row `start` on, and answers where they end: over a row there is a helper, over a
 /// constant none.
 #[inline(always)]
-fn put_select(width: u8, start: u32, condition: Operand, x: Operand, y: Operand, rows: &mut [Row]) -> u32
+fn put_select(
+    width: u8,
+    start: u32,
+    condition: Operand,
+    x: Operand,
+    y: Operand,
+    rows: &mut [Row],
+) -> u32
     requires room { start + 2 ≤ length rows.old }
     requires small { start + 2 < 2 ^ 32 }
     ensures put { rows.new ≡ put rows.old start (select_rows width start condition x y) }

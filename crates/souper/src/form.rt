@@ -23,7 +23,8 @@ pub enum Form {
 
 impl Form {
     /// The form of an operation of a graph: a comparison is decided by its condition, a shift by whether its two operands have one width.
-    #[inline]
+    // Inlined, since a harvest asks for each value of each walk.
+    #[inline(always)]
     pub fn of<G: FlowGraph>(graph: &G, opcode: Opcode, cond: IntCC, args: Operands) -> Form
         ensures { result ≡ form_of opcode cond (same_widths (G.meaning graph.now) (values args)) }
     {
@@ -31,7 +32,8 @@ impl Form {
             Opcode::Bnot => Form::Inverted,
             Opcode::Select => Form::Selected,
             Opcode::Icmp if let Some(word) = cond.word() => Form::Compared(word),
-            Opcode::Ishl | Opcode::Sshr | Opcode::Ushr if !same_widths(graph, args) => Form::Untranslated,
+            Opcode::Ishl | Opcode::Sshr | Opcode::Ushr if !same_widths(graph, args) =>
+                Form::Untranslated,
             _ => opcode.word().map_or(Form::Untranslated, Form::Plain),
         }
     }
