@@ -83,7 +83,7 @@ first_has rows w kind.Extension (Three x y z) f = absurd f
 module _ (rows : List Row) (pass : WidthsPass rows) (r : ℕ) (there : r < length rows) where
   readable : (x : Operand) → Earlier r x → Readable x
   readable (operand.Row s) e = tt
-  readable (operand.Constant z w) e = type_width w e
+  readable (operand.Constant w z) e = type_width w e
   readable operand.Zero e = tt
 
   all_readable : (xs : RowOperands) → AllEarlier r xs → AllReadable xs
@@ -94,7 +94,7 @@ module _ (rows : List Row) (pass : WidthsPass rows) (r : ℕ) (there : r < lengt
 
   sized : (x : Operand) → Earlier r x → (v : ℕ) → HasWidth rows v x → IsWidth (operand_width rows x)
   sized (operand.Row s) e v h = type_width (row_at rows s).width (pass s (omega arith)).width
-  sized (operand.Constant z w) e v h = type_width w e
+  sized (operand.Constant w z) e v h = type_width w e
   sized operand.Zero e v h = absurd h
 
   first_sized : (word : Word) (w : ℕ) (xs : RowOperands) → AllEarlier r xs → KindFits rows w (kind_of word) xs → (word ≡ Var) ⊎ IsWidth (first_width rows xs)
@@ -124,7 +124,7 @@ module _ (rows : List Row) (pass : WidthsPass rows) (r : ℕ) (there : r < lengt
   module _ (f h : ℕ → Option ℕ) (same : (k : ℕ) → k < r → f k ≡ h k) where
     operand_same : (x : Operand) → Earlier r x → operand_number f x ≡ operand_number h x
     operand_same (operand.Row s) e = same s e
-    operand_same (operand.Constant z w) e = refl
+    operand_same (operand.Constant w z) e = refl
     operand_same operand.Zero e = refl
 
     operands_same : (xs : RowOperands) → AllEarlier r xs → operand_numbers f xs ≡ operand_numbers h xs

@@ -35,7 +35,7 @@ IsWidth w = (0 < w) × (w ≤ 64)
 -- a constant has a width
 abbrev pub Readable : Operand → Type 0
 Readable (operand.Row r) = Unit {0}
-Readable (operand.Constant z w) = IsWidth w
+Readable (operand.Constant w z) = IsWidth w
 Readable operand.Zero = Unit {0}
 
 abbrev pub AllReadable : RowOperands → Type 0

@@ -24,7 +24,7 @@ fn operand_number(numbers: &[Option<u64>], x: Operand) -> Option<u64>
 {
     match x {
         Operand::Row(r) => number_on(numbers, r),
-        Operand::Constant(z, bits) => Some(Width::new(bits)?.unsigned(z)),
+        Operand::Constant { width, imm } => Some(Width::new(width)?.unsigned(imm)),
         Operand::Zero => Some(0),
     }
 }

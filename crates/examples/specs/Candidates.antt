@@ -66,7 +66,7 @@ examples =
           record {
             root = 4;
             shown = 0 ∷ 1 ∷ 2 ∷ 3 ∷ 4 ∷ [];
-            rows = variable_of 32 ∷ line 32 word.Mul (row 0 ∷ constant (pos 3) 32 ∷ []) ∷ line 32 word.Add (row 1 ∷ constant (pos 7) 32 ∷ []) ∷ [];
+            rows = variable_of 32 ∷ line 32 word.Mul (row 0 ∷ constant 32 (pos 3) ∷ []) ∷ line 32 word.Add (row 1 ∷ constant 32 (pos 7) ∷ []) ∷ [];
             counted = 2;
             steps = 10;
           }
@@ -112,7 +112,7 @@ examples =
             rows =
                 variable_of 32
                 ∷ line 32 word.Add (row 0 ∷ row 0 ∷ [])
-                ∷ line 32 word.Select (constant (pos 1) 1 ∷ row 1 ∷ row 0 ∷ [])
+                ∷ line 32 word.Select (constant 1 (pos 1) ∷ row 1 ∷ row 0 ∷ [])
                 ∷ [];
             counted = 2;
             steps = 10;
@@ -220,7 +220,7 @@ examples =
             shown = 0 ∷ 1 ∷ 2 ∷ [];
             rows =
                 variable_of 32
-                ∷ line 32 word.Xor (row 0 ∷ constant (negsuc 0) 32 ∷ [])
+                ∷ line 32 word.Xor (row 0 ∷ constant 32 (negsuc 0) ∷ [])
                 ∷ line 32 word.Add (row 1 ∷ row 0 ∷ [])
                 ∷ [];
             counted = 2;

@@ -142,7 +142,7 @@ never_full g g' lawful before from shown rows places len v why f none room t =
 
 select_few : (w start : ℕ) (condition x y : Operand) → length (select_rows w start condition x y) ≤ 2
 select_few w start (operand.Row r) x y = omega arith
-select_few w start (operand.Constant z v) x y = omega arith
+select_few w start (operand.Constant v z) x y = omega arith
 select_few w start operand.Zero x y = omega arith
 
 form_few : (of : ℕ → Operand) (w start : ℕ) (f : Form) (vs : List ℕ) → length (form_rows of w start f vs) ≤ 2

@@ -30,7 +30,10 @@ impl<G: FlowGraph> Placed<'_, G> {
         ensures { result ≡ placed_operand (G.meaning self.now.graph.now) self.now.places.now v.0 }
     {
         match value_definition(self.graph, v) {
-            ValueDef::Constant(imm) => Operand::Constant(imm, self.graph.value_type(v).bits()),
+            ValueDef::Constant(imm) => Operand::Constant {
+                width: self.graph.value_type(v).bits(),
+                imm,
+            },
             ValueDef::Operation { .. } | ValueDef::Variable | ValueDef::Deleted => {
                 Operand::Row(self.places.get(v.0 as usize).copied().unwrap_or(0))
             }
@@ -91,7 +94,10 @@ impl<G: FlowGraph> Placed<'_, G> {
                 rows[at] = Row {
                     width,
                     word: Word::Xor,
-                    operands: RowOperands::Two(self.operand(a), Operand::Constant(-1, width)),
+                    operands: RowOperands::Two(
+                        self.operand(a),
+                        Operand::Constant { width, imm: -1 },
+                    ),
                 };
                 start + 1
             }
@@ -201,13 +207,16 @@ fn put_select(
             rows[at + 1] = select_row(width, Operand::Row(start), x, y);
             start + 2
         }
-        Operand::Constant(imm, _) => {
-            let chosen = Operand::Constant(i64::from(imm != 0), 1);
+        Operand::Constant { imm, .. } => {
+            let chosen = Operand::Constant {
+                width: 1,
+                imm: i64::from(imm != 0),
+            };
             rows[at] = select_row(width, chosen, x, y);
             start + 1
         }
         Operand::Zero => {
-            rows[at] = select_row(width, Operand::Constant(0, 1), x, y);
+            rows[at] = select_row(width, Operand::Constant { width: 1, imm: 0 }, x, y);
             start + 1
         }
     }

@@ -28,28 +28,28 @@ no e = absurd (both_ways false refl e)
 module _ (rows : List Row) where
   width_test : (w : ℕ) (x : Operand) → HasWidth rows w x → has_width rows w x ≡ true
   width_test w (operand.Row r) h = eq-eqb _ w h
-  width_test w (operand.Constant z v) h = eq-eqb v w h
+  width_test w (operand.Constant v z) h = eq-eqb v w h
   width_test w operand.Zero h = absurd h
 
   width_rule : (w : ℕ) (x : Operand) → has_width rows w x ≡ true → HasWidth rows w x
   width_rule w (operand.Row r) h = eqb-true _ w h
-  width_rule w (operand.Constant z v) h = eqb-true v w h
+  width_rule w (operand.Constant v z) h = eqb-true v w h
   width_rule w operand.Zero h = no h
 
   zero_test : (w : ℕ) (x : Operand) → HasWidthOrZero rows w x → has_width_or_zero rows w x ≡ true
   zero_test w (operand.Row r) h = eq-eqb _ w h
-  zero_test w (operand.Constant z v) h = eq-eqb v w h
+  zero_test w (operand.Constant v z) h = eq-eqb v w h
   zero_test w operand.Zero h = refl
 
   zero_rule : (w : ℕ) (x : Operand) → has_width_or_zero rows w x ≡ true → HasWidthOrZero rows w x
   zero_rule w (operand.Row r) h = eqb-true _ w h
-  zero_rule w (operand.Constant z v) h = eqb-true v w h
+  zero_rule w (operand.Constant v z) h = eqb-true v w h
   zero_rule w operand.Zero h = tt
 
   -- an operand has no width but its own
   own_width : (w : ℕ) (x : Operand) → HasWidth rows w x → w ≡ operand_width rows x
   own_width w (operand.Row r) h = sym h
-  own_width w (operand.Constant z v) h = sym h
+  own_width w (operand.Constant v z) h = sym h
   own_width w operand.Zero h = absurd h
 
   kind_test : (w : ℕ) (k : Kind) (xs : RowOperands) → KindFits rows w k xs → kind_fits rows w k xs ≡ true
@@ -129,12 +129,12 @@ module _ (rows : List Row) where
 
   earlier_test : (r : ℕ) (x : Operand) → Earlier r x → is_earlier r x ≡ true
   earlier_test r (operand.Row s) h = lt-ltb s r h
-  earlier_test r (operand.Constant z w) h = T_true (is_type w) h
+  earlier_test r (operand.Constant w z) h = T_true (is_type w) h
   earlier_test r operand.Zero h = refl
 
   earlier_rule : (r : ℕ) (x : Operand) → is_earlier r x ≡ true → Earlier r x
   earlier_rule r (operand.Row s) h = ltb-true s r h
-  earlier_rule r (operand.Constant z w) h = T_from_true (is_type w) h
+  earlier_rule r (operand.Constant w z) h = T_from_true (is_type w) h
   earlier_rule r operand.Zero h = tt
 
   all_test : (r : ℕ) (xs : RowOperands) → AllEarlier r xs → are_earlier r xs ≡ true

@@ -34,7 +34,7 @@ use Rattle.souper.proofs.Sound.{last_width, row_is, form_row_at}
 
 earlier_more : (r s : ℕ) (x : Operand) → r ≤ s → Earlier r x → Earlier s x
 earlier_more r s (operand.Row q) h e = omega arith
-earlier_more r s (operand.Constant z w) h e = e
+earlier_more r s (operand.Constant w z) h e = e
 earlier_more r s operand.Zero h e = tt
 
 all_earlier_more : (r s : ℕ) (xs : RowOperands) → r ≤ s → AllEarlier r xs → AllEarlier s xs

@@ -25,7 +25,7 @@ use Rattle.souper.proofs.RowUnfolds.{step_at, step_past}
 
 pub or_zero : (rows : List Row) (w : ℕ) (x : Operand) → HasWidth rows w x → HasWidthOrZero rows w x
 or_zero rows w (operand.Row r) h = h
-or_zero rows w (operand.Constant z v) h = h
+or_zero rows w (operand.Constant v z) h = h
 or_zero rows w operand.Zero h = absurd h
 
 -- each number fits the width that its operand has
@@ -123,7 +123,7 @@ AllFit rows number = (s m : ℕ) → number s ≡ Some m → m < 2 ^ (row_at row
 operand_lt : (rows : List Row) (number : ℕ → Option ℕ) → AllFit rows number → (x : Operand) (w m : ℕ) → HasWidthOrZero rows w x → operand_number number x ≡ Some m → m < 2 ^ w
 unfolding AllFit
 operand_lt rows number h (operand.Row s) w m e q = subst (λ v. m < 2 ^ v) e (h s m q)
-operand_lt rows number h (operand.Constant z v) w m e q = subst (λ k. k < 2 ^ w) (some_injective _ _ q) (subst (λ k. unsigned v z < 2 ^ k) e (unsigned_lt v z))
+operand_lt rows number h (operand.Constant v z) w m e q = subst (λ k. k < 2 ^ w) (some_injective _ _ q) (subst (λ k. unsigned v z < 2 ^ k) e (unsigned_lt v z))
 operand_lt rows number h operand.Zero w m e q = let z : 0 ≡ m = some_injective _ _ q in omega (arith, pow_pos w)
 
 numbers_fit : (rows : List Row) (number : ℕ → Option ℕ) → AllFit rows number → (ops : List Operand) (xs : List ℕ) → all_of (map (operand_number number) ops) ≡ Some xs → InRange rows ops xs

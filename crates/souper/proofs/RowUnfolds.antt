@@ -16,7 +16,7 @@ More f h = (u m : ℕ) → f u ≡ Some m → h u ≡ Some m
 operand_more : (f h : ℕ → Option ℕ) → More f h → (x : Operand) (m : ℕ) → operand_number f x ≡ Some m → operand_number h x ≡ Some m
 unfolding More
 operand_more f h k (operand.Row r) m e = k r m e
-operand_more f h k (operand.Constant z w) m e = e
+operand_more f h k (operand.Constant w z) m e = e
 operand_more f h k operand.Zero m e = e
 
 result_more : (rows : List Row) (f h : ℕ → Option ℕ) → More f h → (input : ℕ) (row : Row) (n : ℕ) → row_result rows f input row ≡ Some n → row_result rows h input row ≡ Some n

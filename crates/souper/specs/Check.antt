@@ -17,12 +17,12 @@ use Rattle.souper.specs.declared.rows.RowOperands.TheVariants.{Empty, One, Two, 
 
 abbrev pub has_width : List Row → ℕ → Operand → Bool
 has_width rows w (operand.Row r) = (row_at rows r).width == w
-has_width rows w (operand.Constant z v) = v == w
+has_width rows w (operand.Constant v z) = v == w
 has_width rows w operand.Zero = false
 
 abbrev pub has_width_or_zero : List Row → ℕ → Operand → Bool
 has_width_or_zero rows w (operand.Row r) = (row_at rows r).width == w
-has_width_or_zero rows w (operand.Constant z v) = v == w
+has_width_or_zero rows w (operand.Constant v z) = v == w
 has_width_or_zero rows w operand.Zero = true
 
 abbrev pub kind_fits : List Row → ℕ → Kind → RowOperands → Bool
@@ -37,7 +37,7 @@ kind_fits rows w k xs = false
 
 abbrev pub is_earlier : ℕ → Operand → Bool
 is_earlier r (operand.Row s) = nat_lt s r
-is_earlier r (operand.Constant z w) = is_type w
+is_earlier r (operand.Constant w z) = is_type w
 is_earlier r operand.Zero = true
 
 abbrev pub are_earlier : ℕ → RowOperands → Bool

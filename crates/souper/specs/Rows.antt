@@ -38,7 +38,7 @@ given (x ∷ (y ∷ (z ∷ more))) = Three x y z
 -- the width of an operand, 0 for the zero that has none
 abbrev pub operand_width : List Row → Operand → ℕ
 operand_width rows (operand.Row r) = (row_at rows r).width
-operand_width rows (operand.Constant z w) = w
+operand_width rows (operand.Constant w z) = w
 operand_width rows operand.Zero = 0
 
 -- the width of the first operand
@@ -48,7 +48,7 @@ first_width rows xs = operand_width rows (slice_index_or (listed xs) 0 operand.Z
 -- the number of an operand, from the numbers on the rows: a constant is read modulo 2 ^ width
 abbrev pub operand_number : (ℕ → Option ℕ) → Operand → Option ℕ
 operand_number number (operand.Row r) = number r
-operand_number number (operand.Constant z w) = Some (unsigned w z)
+operand_number number (operand.Constant w z) = Some (unsigned w z)
 operand_number number operand.Zero = Some 0
 
 -- the numbers of all operands, none where one of them is undefined

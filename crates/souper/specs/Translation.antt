@@ -104,7 +104,7 @@ row_of g walk v = start_of g walk v + row_count g v - 1
 
 -- a value as an operand: a constant itself, any other value by its row r
 abbrev pub operand_at : Flow → ℕ → ℕ → Shape → Operand
-operand_at g v r (no_row z) = operand.Constant z (width_of g v)
+operand_at g v r (no_row z) = operand.Constant (width_of g v) z
 operand_at g v r (rows_as f vs) = operand.Row r
 
 abbrev pub operand_of : Flow → List ℕ → ℕ → Operand
@@ -112,7 +112,7 @@ operand_of g walk v = operand_at g v (row_of g walk v) (shape g v)
 
 -- the condition of a select that is a constant: 0 for zero, and else 1, of width 1
 abbrev pub condition_of : ℤ → Operand
-condition_of z = operand.Constant (cond (is_zero z) (pos 0) (pos 1)) 1
+condition_of z = operand.Constant 1 (cond (is_zero z) (pos 0) (pos 1))
 
 -- the helper of a select: whether the row r is not zero
 abbrev pub is_nonzero : ℕ → Row
@@ -124,7 +124,7 @@ select_row w condition x y = record { width = w; word = Select; operands = Three
 -- a select of width w, with the condition a constant, or a row that a helper at the row `start` compares with zero
 abbrev pub select_rows : ℕ → ℕ → Operand → Operand → Operand → List Row
 select_rows w start (operand.Row r) x y = is_nonzero r ∷ select_row w (operand.Row start) x y ∷ []
-select_rows w start (operand.Constant z v) x y = select_row w (condition_of z) x y ∷ []
+select_rows w start (operand.Constant v z) x y = select_row w (condition_of z) x y ∷ []
 select_rows w start operand.Zero x y = select_row w (condition_of (pos 0)) x y ∷ []
 
 -- a word over the values vs, in order
@@ -135,7 +135,7 @@ word_row of w word vs = record { width = w; word = word; operands = given (map o
 abbrev pub form_rows : (ℕ → Operand) → ℕ → ℕ → Form → List ℕ → List Row
 form_rows of w start Untranslated vs = variable_of w ∷ []
 form_rows of w start (Plain word) vs = word_row of w word vs ∷ []
-form_rows of w start Inverted vs = record { width = w; word = Xor; operands = Two (of (slice_index vs 0)) (operand.Constant (negsuc 0) w) } ∷ []
+form_rows of w start Inverted vs = record { width = w; word = Xor; operands = Two (of (slice_index vs 0)) (operand.Constant w (negsuc 0)) } ∷ []
 form_rows of w start Selected vs = select_rows w start (of (slice_index vs 0)) (of (slice_index vs 1)) (of (slice_index vs 2))
 form_rows of w start (Compared word) vs = word_row of 1 word vs ∷ record { width = w; word = Zext; operands = One (operand.Row start) } ∷ []
 

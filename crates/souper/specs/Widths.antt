@@ -14,13 +14,13 @@ use Rattle.souper.specs.declared.rows.RowOperands.TheVariants.{Empty, One, Two, 
 -- an operand has the width w
 abbrev pub HasWidth : List Row → ℕ → Operand → Type 0
 HasWidth rows w (operand.Row r) = (row_at rows r).width ≡ w
-HasWidth rows w (operand.Constant z v) = v ≡ w
+HasWidth rows w (operand.Constant v z) = v ≡ w
 HasWidth rows w operand.Zero = ⊥
 
 -- an operand has the width w, or is the zero that has none
 abbrev pub HasWidthOrZero : List Row → ℕ → Operand → Type 0
 HasWidthOrZero rows w (operand.Row r) = (row_at rows r).width ≡ w
-HasWidthOrZero rows w (operand.Constant z v) = v ≡ w
+HasWidthOrZero rows w (operand.Constant v z) = v ≡ w
 HasWidthOrZero rows w operand.Zero = Unit {0}
 
 -- A row of width w has as many operands as its word asks for, of the widths that it asks for. The zero that has no width
@@ -38,7 +38,7 @@ KindFits rows w k xs = ⊥
 -- an operand of the row r that is a row is an earlier one, and one that is a constant has the width of a row
 abbrev pub Earlier : ℕ → Operand → Type 0
 Earlier r (operand.Row s) = s < r
-Earlier r (operand.Constant z w) = T (is_type w)
+Earlier r (operand.Constant w z) = T (is_type w)
 Earlier r operand.Zero = Unit {0}
 
 abbrev pub AllEarlier : ℕ → RowOperands → Type 0

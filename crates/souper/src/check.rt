@@ -28,7 +28,7 @@ pub fn operand_width(rows: &[Row], x: Operand) -> u8
 {
     match x {
         Operand::Row(r) => row_width(rows, r),
-        Operand::Constant(_, width) => width,
+        Operand::Constant { width, .. } => width,
         Operand::Zero => 0,
     }
 }
@@ -39,7 +39,7 @@ fn has_width(rows: &[Row], width: u8, x: Operand) -> bool
 {
     match x {
         Operand::Row(r) => row_width(rows, r) == width,
-        Operand::Constant(_, own) => own == width,
+        Operand::Constant { width: own, .. } => own == width,
         Operand::Zero => false,
     }
 }
@@ -57,7 +57,7 @@ fn is_earlier(at: usize, x: Operand) -> bool
 {
     match x {
         Operand::Row(r) => (r as usize) < at,
-        Operand::Constant(_, width) => is_type(width),
+        Operand::Constant { width, .. } => is_type(width),
         Operand::Zero => true,
     }
 }

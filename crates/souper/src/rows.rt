@@ -5,8 +5,9 @@ use ir::Word;
 pub enum Operand {
     /// An earlier row.
     Row(u32),
-    /// An immediate, read modulo 2 to the width, and the width.
-    Constant(i64, u8),
+    /// An immediate, read modulo 2 to the width.
+    // The width stands first, so that an operand takes 16 bytes.
+    Constant { width: u8, imm: i64 },
     /// The zero of a select's helper, which has no width.
     Zero,
 }

@@ -14,7 +14,7 @@ use Rattle.souper.specs.declared.rows.RowOperands.TheVariants.{Empty, One, Two, 
 -- a row by its number, a constant as the signed number that it holds and its width, the zero of a select's helper without one
 abbrev pub operand_text : Operand → List ℕ
 operand_text (operand.Row r) = codes "%" ++ decimal r
-operand_text (operand.Constant z w) = signed_decimal z ++ codes ":i" ++ decimal w
+operand_text (operand.Constant w z) = signed_decimal z ++ codes ":i" ++ decimal w
 operand_text operand.Zero = codes "0"
 
 -- a space before the first operand, commas between them

@@ -10,8 +10,8 @@ use Rattle.text.specs.Text.{text_of}
 -- x * 3 + 7
 abbrev pub sum_rows : List Row
 sum_rows = record { width = 32; word = Var; operands = Empty }
-    ∷ record { width = 32; word = Mul; operands = Two (operand.Row 0) (operand.Constant (pos 3) 32) }
-    ∷ record { width = 32; word = Add; operands = Two (operand.Row 1) (operand.Constant (pos 7) 32) }
+    ∷ record { width = 32; word = Mul; operands = Two (operand.Row 0) (operand.Constant 32 (pos 3)) }
+    ∷ record { width = 32; word = Add; operands = Two (operand.Row 1) (operand.Constant 32 (pos 7)) }
     ∷ []
 
 abbrev pub SumText : Type 0
@@ -21,7 +21,7 @@ SumText = text_of (value 4) (codes "f") sum_rows ≡ codes ";; Harvested from `v
 abbrev pub choice_rows : List Row
 choice_rows = sum_rows
     ++ record { width = 1; word = Ne; operands = Two (operand.Row 2) operand.Zero }
-    ∷ record { width = 32; word = Select; operands = Three (operand.Row 3) (operand.Row 2) (operand.Constant (negsuc 0) 32) }
+    ∷ record { width = 32; word = Select; operands = Three (operand.Row 3) (operand.Row 2) (operand.Constant 32 (negsuc 0)) }
     ∷ []
 
 abbrev pub ChoiceText : Type 0

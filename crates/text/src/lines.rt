@@ -20,8 +20,8 @@ fn put_operand(out: &mut [u8], at: usize, separator: &[u8], operand: Operand) ->
             let at = put(out, at, b"%");
             put_number(out, at, row)
         }
-        Operand::Constant(immediate, width) => {
-            let at = put_number(out, at, immediate);
+        Operand::Constant { width, imm } => {
+            let at = put_number(out, at, imm);
             let at = put(out, at, b":i");
             put_number(out, at, width)
         }
