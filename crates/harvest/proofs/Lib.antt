@@ -6,3 +6,4 @@ mod Lending
 mod Candidates
 mod Telling
 mod Harvesting
+mod RootRow

@@ -21,6 +21,7 @@ use Rattle.souper.proofs.Sound.{defined_rows_sound}
 use Rattle.souper.proofs.WalkRows.{translation_is_rows_of_walk}
 use Rattle.harvest.specs.Translated.{NeverFull, Translates}
 use Rattle.harvest.specs.Written.{LhsOf, RowsSound, WrittenOf}
+use Rattle.harvest.proofs.RootRow.{root_has_row, root_last}
 
 module _ (g : Flow) (lawful : Lawful g) (root : ℕ) (alive : live g root ≡ true) where
   order : Topological g (walk g root)
@@ -42,6 +43,8 @@ module _ (g : Flow) (lawful : Lawful g) (root : ℕ) (alive : live g root ≡ tr
         rows_of_walk = rows;
         checked = (check_exact (translation g (walk g root)) (width_check (translation g (walk g root))) refl).1 rows.widths;
         sound = rows_sound;
+        root_row = root_last g root post order;
+        root_has_row = root_has_row g root;
         operations_are = sum_reached (λ v. truth (is_counted (shape g v))) (counted g) refl (λ v vs. refl) g lawful root;
         steps_are = steps_count g lawful root;
         operations_of_walk = refl;

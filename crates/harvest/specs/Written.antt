@@ -34,6 +34,9 @@ pub record LhsOf (g : Flow) (root : ℕ) (rows : List Row) (operations steps : �
   pub rows_of_walk : RowsOfWalk g (walk g root) rows
   pub checked : width_check rows ≡ Ok tt
   pub sound : RowsSound g root rows
+  -- the root's row is the last; what reaches two counted operations has one
+  pub root_row : has_row (shape g root) ≡ true → row_of g (walk g root) root + 1 ≡ length rows
+  pub root_has_row : ReachesTwo g root → has_row (shape g root) ≡ true
   -- the counts, over any list of the values reached
   pub operations_are : (vs : List ℕ) → Reached g root vs → operations ≡ counted g vs
   pub steps_are : (vs : List ℕ) → Reached g root vs → steps ≡ 1 + (length vs + operand_count g vs)
