@@ -24,7 +24,7 @@ fn are_name_bytes(name: &[u8]) -> bool
 }
 
 /// Whether a name is fit for a heading: no longer than 64 bytes, each of them one that a name may hold.
-fn is_name(name: &[u8]) -> bool
+pub fn is_name(name: &[u8]) -> bool
     ensures { result ≡ is_name name.now }
 {
     name.len() <= 64 && are_name_bytes(name)

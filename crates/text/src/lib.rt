@@ -9,7 +9,7 @@ pub mod buffer;
 pub mod candidate;
 pub mod lines;
 
-pub use candidate::{text_len, write_candidate};
+pub use candidate::{is_name, text_len, write_candidate};
 
 /// Two worked candidates have these very texts.
 #[tactic(auto, using(crate::proofs::Worked::sum_text, crate::proofs::Worked::choice_text))]
