@@ -10,6 +10,8 @@ mod report;
 mod run;
 mod shown;
 
+use anyhow::anyhow;
+
 fn main(rt: HostRuntime) -> anyhow::Result<()> {
     run_all(&rt)
 }
@@ -21,7 +23,9 @@ fn run_all(rt: &HostRuntime) -> anyhow::Result<()> {
         return Ok(help::print_help(rt)?);
     }
     for input in options.inputs.iter() {
-        run::run(rt, input, &options)?;
+        if let Err(error) = run::run(rt, input, &options) {
+            return Err(anyhow!("{input}: {error}"));
+        }
     }
     Ok(())
 }

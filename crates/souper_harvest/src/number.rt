@@ -1,8 +1,9 @@
 // A value's number in the IR, and the number on its row.
 use crate::options::Options;
 use anyhow::anyhow;
+use arith::number_at;
 use eval::{ir_number, row_number};
-use flow::{FlowGraph, ValueDef, value_definition};
+use flow::{FlowGraph, ValueDef, original, value_definition};
 use harvest::{ROWS, translate_value};
 use ir::{Refusal, Value, Word};
 use souper::{Kind, Row};
@@ -65,7 +66,16 @@ fn is_own(row: &Row) -> bool {
     !matches!(Kind::of(row.word), Kind::Comparison | Kind::Inequality)
 }
 
-/// What the variable rows hold: the IR numbers of their values, and 0 where there is none.
+/// What a variable row holds: its value's IR number, and 0 where there is none. A variable's is its input, whatever its type and
+/// however wide the input.
+fn held<G: FlowGraph>(graph: &G, value: Value, inputs: &[u64], marks: &mut [u8]) -> u64 {
+    if value_definition(graph, value) == ValueDef::Variable {
+        return number_at(inputs, original(graph, value).0 as usize);
+    }
+    ir_number(graph, value, inputs, marks).unwrap_or(0)
+}
+
+/// What the variable rows hold.
 fn row_inputs<G: FlowGraph>(
     alloc: Global,
     graph: &G,
@@ -83,9 +93,8 @@ fn row_inputs<G: FlowGraph>(
     let own = rows.iter().enumerate().filter(|(_, row)| is_own(row));
     for ((number, row), value) in own.zip(with_rows) {
         if row.word == Word::Var {
-            let held = ir_number(graph, *value, inputs, &mut marks).unwrap_or(0);
             if let Some(input) = row_inputs.get_mut(number) {
-                *input = held;
+                *input = held(graph, *value, inputs, &mut marks);
             }
         }
     }

@@ -1,10 +1,11 @@
 // What the program is asked to do.
 use crate::help::USAGE;
 use anyhow::anyhow;
-use ir::Value;
+use ir::{Cause, Refusal, Value};
 use script::{read_pin, read_value};
 use std::alloc::{AllocError, Global};
-use std::env;
+use std::{env, fmt};
+use text::is_name;
 
 /// Where a graph comes from.
 #[derive(Debug, Drop)]
@@ -17,6 +18,17 @@ pub(crate) enum Input {
     Image(String),
     /// The script that is built in.
     Example,
+}
+
+/// As an error names it.
+impl fmt::Display for Input {
+    fn fmt<W: fmt::Write>(&self, f: &mut fmt::Formatter<W>) -> fmt::Result {
+        match self {
+            Input::Stdin => f.write_str("standard input"),
+            Input::Script(path) | Input::Image(path) => f.write_str(path.as_str()),
+            Input::Example => f.write_str("the example"),
+        }
+    }
 }
 
 /// How graphs are shown: with these values as these constants, and with operands as they are or as their originals.
@@ -89,7 +101,7 @@ impl Options {
             "--example" => self.inputs.push(Input::Example)?,
             "-" => self.inputs.push(Input::Stdin)?,
             text if text.starts_with("--") => return option_of(rt, text).map(Some),
-            text if text.starts_with("-") => return Err(misused(rt)?),
+            text if text.starts_with("-") => return Err(misused(rt, text)?),
             _ => self.inputs.push(Input::Script(word))?,
         }
         Ok(None)
@@ -103,7 +115,7 @@ impl Options {
         word: String,
     ) -> anyhow::Result<()> {
         match option {
-            Waiting::Function => self.function = word,
+            Waiting::Function => self.function = fit(word)?,
             Waiting::Image => self.inputs.push(Input::Image(word))?,
             Waiting::Pin => self.view.pins.push(pin(rt, word.as_str())?)?,
             Waiting::Eval => self.evaluated = Some(value(rt, word.as_str())?),
@@ -125,8 +137,17 @@ fn option_of(rt: &HostRuntime, text: &str) -> anyhow::Result<Waiting> {
         "--pin" => Ok(Waiting::Pin),
         "--eval" => Ok(Waiting::Eval),
         "--input" => Ok(Waiting::Input),
-        _ => Err(misused(rt)?),
+        _ => Err(misused(rt, text)?),
     }
+}
+
+/// A name that is fit for headings.
+fn fit(name: String) -> anyhow::Result<String> {
+    if !is_name(name.as_bytes()) {
+        let refusal = Refusal::from(Cause::BadName);
+        return Err(anyhow!("the name of the function is {refusal}"));
+    }
+    Ok(name)
 }
 
 /// What the arguments ask for: a script on standard input, where they name none.
@@ -146,7 +167,7 @@ pub(crate) fn read_options(rt: &HostRuntime) -> anyhow::Result<Options> {
         };
     }
     if waiting.is_some() {
-        return Err(misused(rt)?);
+        return Err(misused(rt, "the last option wants an argument")?);
     }
     if options.inputs.is_empty() {
         options.inputs.push(Input::Stdin)?;
@@ -158,7 +179,7 @@ pub(crate) fn read_options(rt: &HostRuntime) -> anyhow::Result<Options> {
 fn pin(rt: &HostRuntime, word: &str) -> anyhow::Result<(Value, i64)> {
     match read_pin(word.as_bytes()) {
         Some(pin) => Ok(pin),
-        None => Err(misused(rt)?),
+        None => Err(misused(rt, word)?),
     }
 }
 
@@ -166,12 +187,12 @@ fn pin(rt: &HostRuntime, word: &str) -> anyhow::Result<(Value, i64)> {
 fn value(rt: &HostRuntime, word: &str) -> anyhow::Result<Value> {
     match read_value(word.as_bytes()) {
         Some(value) => Ok(value),
-        None => Err(misused(rt)?),
+        None => Err(misused(rt, word)?),
     }
 }
 
-/// Says how the program is used, and what to end with.
-fn misused(rt: &HostRuntime) -> anyhow::Result<anyhow::Error> {
+/// Says how the program is used, and what to end with, which names the word that is wrong.
+fn misused(rt: &HostRuntime, word: &str) -> anyhow::Result<anyhow::Error> {
     eprintln!(rt; "{USAGE}")?;
-    Ok(anyhow!("wrong arguments"))
+    Ok(anyhow!("wrong arguments: {word}"))
 }
