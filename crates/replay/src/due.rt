@@ -1,6 +1,6 @@
 // Answers, beside those that are due.
 use anyhow::anyhow;
-use std::{fs, io};
+use std::fs;
 
 /// How many answers were those that are due, and how many were not.
 #[derive(Clone, Copy, PartialEq, Eq, Debug)]
@@ -45,12 +45,18 @@ pub(crate) fn read_in(
     folder: &str,
     name: &str,
     kind: &str,
-) -> io::Result<Vec<u8>> {
+) -> anyhow::Result<Vec<u8>> {
     let path = format!(in rt.alloc(); "{folder}/{name}{kind}")?;
-    fs::read(rt, path.as_str())
+    match fs::read(rt, path.as_str()) {
+        Ok(bytes) => Ok(bytes),
+        Err(error) => Err(anyhow!("{path}: {error}")),
+    }
 }
 
 /// The text of a file.
-pub(crate) fn read_text(rt: &HostRuntime, path: &str) -> io::Result<String> {
-    fs::read_to_string(rt, path)
+pub(crate) fn read_text(rt: &HostRuntime, path: &str) -> anyhow::Result<String> {
+    match fs::read_to_string(rt, path) {
+        Ok(text) => Ok(text),
+        Err(error) => Err(anyhow!("{path}: {error}")),
+    }
 }

@@ -52,10 +52,13 @@ pub(crate) fn replay(rt: &HostRuntime, folder: &str, tally: &mut Tally) -> anyho
     let manifest = read_text(rt, path.as_str())?;
     for line in manifest.as_str().lines() {
         let Some((name, _)) = line.split_once(' ') else {
-            return Err(anyhow!("a line of the manifest cannot be read"));
+            return Err(anyhow!("{path}: a line cannot be read: {line}"));
         };
         let bytes = read_in(rt, folder, name, ".img")?;
-        let harvested = harvest_image(rt.alloc(), bytes.as_slice()).map_err(failure)?;
+        let harvested = match harvest_image(rt.alloc(), bytes.as_slice()) {
+            Ok(harvested) => harvested,
+            Err(error) => return Err(anyhow!("{name}: {}", failure(error))),
+        };
         let candidates = harvested.candidates.as_slice();
         let has_texts = texts(rt.alloc(), candidates).map_err(failure)?
             == read_in(rt, folder, name, ".txt")?;

@@ -79,9 +79,12 @@ pub(crate) fn replay(rt: &HostRuntime, folder: &str, tally: &mut Tally) -> anyho
     let questions = read_text(rt, path.as_str())?;
     for line in questions.as_str().lines() {
         let Some((question, due)) = line.split_once(" = ") else {
-            return Err(anyhow!("a line cannot be read"));
+            return Err(anyhow!("{path}: a line cannot be read: {line}"));
         };
-        let answer = spelled(rt.alloc(), answer(rt, folder, question)?)?;
+        let answer = match answer(rt, folder, question) {
+            Ok(answer) => spelled(rt.alloc(), answer)?,
+            Err(error) => return Err(anyhow!("{path}: {question}: {error}")),
+        };
         let is_due = answer.as_str() == due;
         tally.count(is_due);
         if !is_due {

@@ -23,7 +23,7 @@ pub(crate) fn replay(rt: &HostRuntime, folder: &str, tally: &mut Tally) -> anyho
     let answers = read_text(rt, path.as_str())?;
     for line in answers.as_str().lines() {
         let Some((name, due)) = line.split_once(' ') else {
-            return Err(anyhow!("an answer cannot be read"));
+            return Err(anyhow!("{path}: a line cannot be read: {line}"));
         };
         let image = read_in(rt, folder, name, "")?;
         let answer = verdict(rt.alloc(), image.as_slice())?;
