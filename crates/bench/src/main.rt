@@ -33,7 +33,10 @@ fn run(rt: &HostRuntime) -> anyhow::Result<()> {
     let Some(repeat) = args.next().and_then(|count| count.as_str().parse().ok()) else {
         return Err(anyhow!("{USAGE}"));
     };
-    let bytes = fs::read(rt, path.as_str())?;
+    let bytes = match fs::read(rt, path.as_str()) {
+        Ok(bytes) => bytes,
+        Err(error) => return Err(anyhow!("{path}: {error}")),
+    };
     measure_check(rt, bytes.as_slice(), repeat)?;
     match Image::checked(bytes.as_slice()) {
         Ok(image) => {
