@@ -7,3 +7,4 @@ mod Candidates
 mod Telling
 mod Harvesting
 mod RootRow
+mod ReadInputs

@@ -1,5 +1,5 @@
 -- The row of a root: it has one, and that is the last. Assumes nothing.
-use Rattle.std.proofs.Common.{◌≡◌, ℕ, ◌+◌, ◌-◌, ◌≤◌, true, false, List, [], ◌∷◌, ◌++◌, length, sym, refl, ap, ◌∙◌, subst, arith, length-append}
+use Rattle.std.proofs.Common.{◌≡◌, ℕ, ◌+◌, ◌≤◌, true, false, List, [], ◌∷◌, ◌++◌, length, sym, refl, ap, ◌∙◌, subst, arith, length-append}
 use Rattle.std.specs.List.{flat_map}
 use Rattle.std.proofs.lemmas.Bool.{both_ways}
 use Rattle.std.proofs.lemmas.List.{flat_map_more}
@@ -8,8 +8,7 @@ use Rattle.flow.specs.Walk.{walk, PostOrder, Topological}
 use Rattle.flow.specs.declared.definition.ValueDef.{ValueDef}
 use Rattle.flow.specs.declared.definition.ValueDef.TheVariants.{Constant, Operation, Variable, Deleted}
 use Rattle.flow.proofs.Places.{in_has, topological_new}
-use Rattle.souper.specs.declared.form.Form.{Form}
-use Rattle.souper.specs.Translation.{Shape, no_row, rows_as, has_row, helpers, row_count, row_count_of, row_of, shape, shape_of, start_of, translation, value_rows}
+use Rattle.souper.specs.Translation.{Shape, no_row, rows_as, has_row, row_count_of, row_of, shape, shape_of, translation, value_rows}
 use Rattle.souper.proofs.Grows.{start_past, start_push_self}
 use Rattle.souper.proofs.Places.{value_length}
 use Rattle.harvest.specs.Roots.{ReachesTwo}

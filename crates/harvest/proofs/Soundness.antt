@@ -21,6 +21,7 @@ use Rattle.souper.proofs.Sound.{defined_rows_sound}
 use Rattle.souper.proofs.WalkRows.{translation_is_rows_of_walk}
 use Rattle.harvest.specs.Translated.{NeverFull, Translates}
 use Rattle.harvest.specs.Written.{LhsOf, RowsSound, WrittenOf}
+use Rattle.harvest.proofs.ReadInputs.{numbers_agree, within, within_fits, within_same}
 use Rattle.harvest.proofs.RootRow.{root_has_row, root_last}
 
 module _ (g : Flow) (lawful : Lawful g) (root : ℕ) (alive : live g root ≡ true) where
@@ -29,9 +30,12 @@ module _ (g : Flow) (lawful : Lawful g) (root : ℕ) (alive : live g root ≡ tr
 
   rows_sound : RowsSound g root (translation g (walk g root))
   rows_sound originals inputs fit v reached row carry defined =
-      let i = has_in (walk g root) v ((walk_is_post_order g lawful root).complete v reached) in
-      let s = defined_rows_sound g (walk g root) originals inputs lawful (topological_ordered g (walk g root) order) fit v i row carry defined in
-      s.1 ∙ sym s.2
+      let post = walk_is_post_order g lawful root in
+      let fitted = within g originals in
+      let same = numbers_agree g root originals fitted (within_same g lawful root originals fit) in
+      let i = has_in (walk g root) v (post.complete v reached) in
+      let s = defined_rows_sound g (walk g root) fitted inputs lawful (topological_ordered g (walk g root) order) (within_fits g lawful originals) v i row (λ u j var le. sym (same u (post.reached u (in_has (walk g root) u j))) ∙ carry u j var le) defined in
+      s.1 ∙ sym s.2 ∙ sym (same v reached)
 
   pub lhs_of : LhsOf g root (translation g (walk g root)) (counted g (walk g root)) (step_count g root)
   lhs_of =

@@ -1,6 +1,6 @@
 -- What the visitor that counts operations has counted. Assumes nothing.
 use Rattle.std.specs.Prelude.{◌≡◌, ℕ, ◌+◌, ◌^◌, ◌<◌, List, [], refl}
-use Rattle.std.proofs.Common.{arith}
+use Rattle.std.proofs.Common.{sym, add-zero}
 use Rattle.flow.specs.Meaning.{Flow}
 use Rattle.souper.specs.Counted.{counted}
 
@@ -10,4 +10,4 @@ pub record CountedMore (g : Flow) (before : ℕ) (shown : List ℕ) (g' : Flow) 
   pub count : before + counted g shown < 2 ^ 32 → after ≡ before + counted g shown
 
 pub counted_none : (g : Flow) (n : ℕ) → CountedMore g n [] g n
-counted_none g n = record { same = refl; count = λ _. omega arith }
+counted_none g n = record { same = refl; count = λ _. sym (add-zero n) }

@@ -1,6 +1,6 @@
 -- What the visitor that translates means. Assumes nothing.
 use Rattle.std.specs.Prelude.{◌≡◌, ℕ, ◌*◌, ◌≤◌, true, false, List, [], ◌++◌, length, drop, slice_index, refl}
-use Rattle.std.proofs.Common.{sym}
+use Rattle.std.proofs.Common.{sym, subst}
 use Rattle.std.proofs.lemmas.Bool.{both_ways}
 use Rattle.flow.specs.Meaning.{Flow, has}
 use Rattle.flow.specs.Walk.{Topological}
@@ -35,4 +35,4 @@ follows_none g rows places len = record {
 }
   where
     drop_none : (xs : List Row) (n : ℕ) → n ≡ 0 → drop n xs ≡ xs
-    drop_none xs n e = rw e refl
+    drop_none xs n e = subst (λ k. drop k xs ≡ xs) (sym e) refl

@@ -1,9 +1,10 @@
 -- The rows and counts of a root, and what is written of them into a table. Assumes nothing.
-use Rattle.std.specs.Prelude.{◌≡◌, ℕ, ◌+◌, ◌≤◌, true, ◌↔◌, List, ◌++◌, length, drop, is_some, Some, None, Ok, Err, Option, Result}
+use Rattle.std.specs.Prelude.{◌≡◌, ℕ, ◌+◌, ◌^◌, ◌<◌, ◌≤◌, true, ◌↔◌, List, ◌++◌, length, drop, is_some, Some, None, Ok, Err, Option, Result}
 use Rattle.ir.specs.declared.entities.Value.{Value}
 use Rattle.ir.specs.declared.refusal.Refusal.{Refusal}
-use Rattle.flow.specs.Meaning.{Flow, Reach}
-use Rattle.flow.specs.Number.{number_of, InputsFit}
+use Rattle.flow.specs.Meaning.{Flow, Reach, width_of, original_of, def_of}
+use Rattle.flow.specs.declared.definition.ValueDef.TheVariants.{Variable}
+use Rattle.flow.specs.Number.{number_of}
 use Rattle.flow.specs.Walk.{walk, step_count, operand_count, In, Reached}
 use Rattle.souper.specs.Check.{width_check}
 use Rattle.souper.specs.Counted.{counted}
@@ -15,12 +16,16 @@ use Rattle.souper.specs.declared.rows.Row.{Row}
 use Rattle.harvest.specs.Roots.{ReachesTwo}
 use Rattle.harvest.specs.declared.written.Written.{Written}
 
--- The rows of a root mean what its values mean. Whatever numbers are given to the variables' originals, within their widths, and to the
+-- each variable that the root reaches is given, at its original, a number of its width
+abbrev pub ReachedFit : Flow → ℕ → (ℕ → ℕ) → Type 0
+ReachedFit g root originals = (u : ℕ) → Reach g root u → def_of g u ≡ Variable → originals (original_of g u) < 2 ^ width_of g u
+
+-- The rows of a root mean what its values mean. Whatever numbers are given to the originals of the variables that it reaches, within their widths, and to the
 -- variable rows: if the variable rows up to the row of a reached value carry their values' numbers, and no row up to it is undefined,
 -- then the number on the row is the value's number.
 abbrev pub RowsSound : Flow → ℕ → List Row → Type 0
 RowsSound g root rows =
-    (originals inputs : ℕ → ℕ) → InputsFit g originals → (v : ℕ) → Reach g root v → has_row (shape g v) ≡ true
+    (originals inputs : ℕ → ℕ) → ReachedFit g root originals → (v : ℕ) → Reach g root v → has_row (shape g v) ≡ true
     → VariablesCarry g (walk g root) originals inputs (row_of g (walk g root) v)
     → ((r : ℕ) → r ≤ row_of g (walk g root) v → is_some (row_number rows inputs r) ≡ true)
     → row_number rows inputs (row_of g (walk g root) v) ≡ number_of g originals v
