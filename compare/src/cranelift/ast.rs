@@ -42,6 +42,8 @@ impl From<Constant> for Operand {
 /// The instructions, each with its word and the names of its operands.
 macro_rules! instructions {
     ($($name:ident $word:literal ($($operand:ident),*);)*) => {
+        // another text than the vendored one may do without some
+        #[allow(dead_code)]
         #[derive(Clone, Copy)]
         pub enum Instruction {
             $($name { $($operand: Operand),* },)*
