@@ -20,9 +20,10 @@ const SIZES: [usize; 4] = [128, 256, 512, 1024];
 /// A round harvests a graph so long with each program.
 const ROUND: Duration = Duration::from_millis(60);
 
-/// The best time of each.
+/// What a graph has, and the best time of each harvest in nanoseconds.
 #[derive(Clone, Copy)]
 struct Best {
+    values: usize,
     steps: usize,
     rust: u64,
     one_by_one: u64,
@@ -62,7 +63,7 @@ fn measure(run: &mut Run, shape: Shape, size: usize, rounds: u32) -> io::Result<
     let steps = due.iter().map(|candidate| candidate.translation.steps).sum();
     let (once, count) = time_rust(&function, 3);
     let repeat = (ROUND.as_nanos() as u64 / once.max(1)).clamp(5, 10_000) as u32;
-    let mut best = Best { steps, rust: once, one_by_one: u64::MAX, all_kept: u64::MAX };
+    let mut best = Best { values: graph.values.len(), steps, rust: once, one_by_one: u64::MAX, all_kept: u64::MAX };
     for _ in 0..rounds {
         best.rust = best.rust.min(time_rust(&function, repeat).0);
         let printed = run.programs.bench(&image, repeat)?;
@@ -110,7 +111,7 @@ pub fn bench(run: &mut Run, rounds: u32) -> io::Result<()> {
             println!(
                 "| {} | {} | {} | {} | {} | {:.2} | {} | {:.2} | {} | {} | {} |",
                 shape.name(),
-                grouped(size),
+                grouped(best.values),
                 grouped(best.steps),
                 time_text(best.rust),
                 time_text(best.one_by_one),

@@ -142,13 +142,11 @@ impl Maker<'_> {
         if is_integer(ty) && has_room && self.random.chance(self.habits.constant) {
             return self.constant(ty);
         }
-        let at = if self.random.chance(self.habits.chain) {
+        if self.random.chance(self.habits.chain) {
             return self.latest[pool(ty)].unwrap_or(self.pools[pool(ty)][count - 1]);
-        } else if self.random.chance(self.habits.shared) {
-            self.random.below(count.min(4))
-        } else {
-            self.random.below(count)
-        };
+        }
+        let among = if self.random.chance(self.habits.shared) { count.min(4) } else { count };
+        let at = self.random.below(among);
         self.pools[pool(ty)][at]
     }
 

@@ -68,8 +68,9 @@ fn random_pins(random: &mut Random, meaning: &Meaning) -> Vec<(usize, i64)> {
         let value = variables.get(at).copied().filter(|_| random.chance(90)).unwrap_or(any);
         let ty = meaning.types.get(value).copied().unwrap_or(0);
         let in_range = random.number(ty.max(1)) as i64;
-        let anywhere = random.next() as i64 >> random.below(64);
-        pins.push((value, if random.chance(90) { in_range } else { anywhere }));
+        // the first numbers out of range, or any
+        let anywhere = [-1, 1i64.wrapping_shl(ty.into()), random.next() as i64];
+        pins.push((value, if random.chance(90) { in_range } else { random.pick(&anywhere) }));
     }
     pins
 }
