@@ -39,8 +39,8 @@ pub fn walk_stands()
     ensures few_steps { StepsFew }
 {}
 
-/// The number of a value follows from the numbers of the values that it uses, fits the value's width, and is missing exactly
-/// where an operation that the value reaches traps.
+/// The number of a value follows from the numbers of the values that it uses, fits the value's width if the inputs fit theirs, and is
+/// missing exactly where an operation that the value reaches traps.
 pub fn numbers_stand()
     ensures unfolds { NumberUnfolds }
     ensures in_range { NumbersInRange }

@@ -70,3 +70,7 @@ roots g l = roots_at g (in_order l)
 -- the roots from a place on
 abbrev pub roots_from : Flow → Layout → Place → List Value
 roots_from g l p = roots_at g (onward l p.block p.index)
+
+-- the roots from the first place on are all roots of the graph
+abbrev pub RootsFromTheStart : Type 0
+RootsFromTheStart = (g : Flow) (l : Layout) → roots_from g l (record { block = 0; index = 0 }) ≡ roots g l

@@ -5,7 +5,7 @@
 //! rows and counts are.
 #![tactic(auto)]
 
-ghost use Rattle.harvest.specs.Roots.{RootsReachTwo};
+ghost use Rattle.harvest.specs.Roots.{RootsReachTwo, RootsFromTheStart};
 
 mod candidate;
 mod counter;
@@ -29,7 +29,9 @@ pub use place::Place;
 pub use value::translate_value;
 pub use written::{ROWS, Written};
 
-/// The roots are the integers that reach two counted operations or more, themselves included.
+/// The roots are the integers that reach two counted operations or more, themselves included; and from the first place on come all of
+/// a graph, in layout order.
 pub fn roots_stand()
-    ensures { RootsReachTwo }
+    ensures reach { RootsReachTwo }
+    ensures from_the_start { RootsFromTheStart }
 {}

@@ -21,7 +21,8 @@ pub use form::Form;
 pub use kind::Kind;
 pub use rows::{Operand, Row, RowOperands};
 
-/// The number on a row follows from the numbers on the rows that it names, and fits the row's width.
+/// The number on a row follows from the numbers on the rows that it names, and fits the row's width where the rows pass the width check
+/// and the variables' inputs fit.
 pub fn row_numbers_stand()
     ensures unfolds { RowUnfolds }
     ensures in_range { RowNumbersInRange }
