@@ -4,9 +4,10 @@ use Rattle.std.specs.Prelude.{nat_lt}
 use Rattle.std.proofs.lemmas.Bool.{lt-ltb, ltb-true, or_right}
 use Rattle.ir.specs.Entities.{values}
 use Rattle.ir.specs.Operations.{compute}
+use Rattle.ir.specs.Options.{and_then}
 use Rattle.flow.specs.Meaning.{Flow, Lawful, Reach, here, through, node, width_of, original_of, def_of, has, present, used, uses}
 use Rattle.flow.specs.Number.{def_number, number_of, value_step, InputsFit}
-use Rattle.flow.specs.Rounds.{all_of, and_then, rounds}
+use Rattle.flow.specs.Rounds.{all_of, rounds}
 use Rattle.flow.specs.declared.definition.ValueDef.{ValueDef}
 use Rattle.flow.specs.declared.definition.ValueDef.TheVariants.{Constant, Operation, Variable, Deleted}
 use Rattle.flow.proofs.Among.{has_here}

@@ -19,32 +19,14 @@ use Rattle.ir.specs.declared.entities.Value.{Value}
 use Rattle.walk.specs.Marks.{marked}
 use Rattle.walk.specs.Stacked.{traced}
 use Rattle.walk.specs.Outcome.{Completed, Stopped}
+use Rattle.walk.specs.Going.{run, value_of, traces, owed, Turn, Walking, Came}
+use Rattle.walk.specs.declared.root.Progress.{Progress}
+use Rattle.walk.specs.declared.root.Progress.TheVariants.{Done, Full}
 
--- What is shown once the entries of the stack are done with.
-abbrev pub run : Flow → List StackEntry → List ℕ → List ℕ
-run g [] shown = shown
-run g (Visit v ∷ st) shown = run g st (shown ++ (v.0 ∷ []))
-run g (Trace v ∷ st) shown = run g st (walk_from g v.0 shown)
-
-abbrev pub value_of : StackEntry → ℕ
-value_of (Visit v) = v.0
-value_of (Trace v) = v.0
-
-abbrev pub traces : List StackEntry → ℕ
-traces [] = 0
-traces (Visit v ∷ st) = traces st
-traces (Trace v ∷ st) = suc (traces st)
-
-abbrev pub visits : List StackEntry → ℕ
+abbrev visits : List StackEntry → ℕ
 visits [] = 0
 visits (Visit v ∷ st) = suc (visits st)
 visits (Trace v ∷ st) = visits st
-
--- the operands of the values that wait to be shown
-abbrev pub owed : Flow → List StackEntry → ℕ
-owed g [] = 0
-owed g (Visit v ∷ st) = length (uses g v.0) + owed g st
-owed g (Trace v ∷ st) = owed g st
 
 both : (st : List StackEntry) → traces st + visits st ≡ length st
 both [] = refl
@@ -62,24 +44,6 @@ traces_traces (v ∷ vs) st = omega (arith, traces_traces vs st)
 owed_traces : (g : Flow) (vs : List ℕ) (st : List StackEntry) → owed g (traced vs ++ st) ≡ owed g st
 owed_traces g [] st = refl
 owed_traces g (v ∷ vs) st = owed_traces g vs st
-
--- What one turn of the walk finds, the top of the stack first.
-pub record Turn (g : Flow) (root : ℕ) (marks : List ℕ) (st : List StackEntry) (steps : ℕ) (Fits : List ℕ → Type 0) : Type 0 where
-  pub lawful : Lawful g
-  pub alive : live g root ≡ true
-  pub shown : List ℕ
-  pub comes : run g st shown ≡ walk g root
-  pub counted : steps + traces st ≡ 1 + (length shown + operand_count g shown) + owed g st
-  pub room : length marks ≡ 1024
-  -- the values shown are marked
-  pub met : (v : ℕ) → v < 1024 → marked marks v ≡ has shown v
-  pub waiting : All (λ e. live g (value_of e) ≡ true) st
-  pub fits : Fits shown
-
--- The same with the entries as a stack has them, the top last. Each of them is a step to come.
-pub record Walking (g : Flow) (root : ℕ) (marks : List ℕ) (items : List StackEntry) (steps : ℕ) (Fits : List ℕ → Type 0) : Type 0 where
-  pub turn : Turn g root marks (reverse items) steps Fits
-  pub few : steps + length items ≤ 1 + 4 * length g
 
 module _ (g : Flow) (lawful : Lawful g) where
   run_adds : (st : List StackEntry) (shown : List ℕ) → (more : List ℕ) × (run g st shown ≡ shown ++ more)
@@ -229,3 +193,11 @@ module _ {g : Flow} {root : ℕ} {marks : List ℕ} {items : List StackEntry} (r
 
 pub done : {g : Flow} {root : ℕ} {marks : List ℕ} {items : List StackEntry} {steps : ℕ} {Fits : List ℕ → Type 0} → items ≡ [] → Walking g root marks items steps Fits → Completed g root Fits steps
 done {g} {root} {marks} {steps = steps} {Fits} empty w = completed (subst (λ l. Turn g root marks (reverse l) steps Fits) empty w.turn)
+
+-- ---- how far a walk came
+
+pub at_end : (g : Flow) (root cap : ℕ) (Fits : List ℕ → Type 0) (marks : List ℕ) (items : List StackEntry) (p : Progress) (steps : ℕ) → p ≡ Done steps → Came g root cap Fits marks items p → Completed g root Fits steps
+at_end g root cap Fits marks items p steps e came = subst (Came g root cap Fits marks items) e came
+
+pub at_full : (g : Flow) (root cap : ℕ) (Fits : List ℕ → Type 0) (marks : List ℕ) (items : List StackEntry) (p : Progress) (steps : ℕ) → p ≡ Full steps → Came g root cap Fits marks items p → Walking g root marks items steps Fits
+at_full g root cap Fits marks items p steps e came = (subst (Came g root cap Fits marks items) e came).0

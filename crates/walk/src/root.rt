@@ -21,6 +21,7 @@ impl<G: FlowGraph> LiveRoot<'_, G> {
     ghost use Rattle.arrayvec.specs.ArrayVec.{array_vec_len};
     ghost use Rattle.flow.specs.Meaning.{uses};
     ghost use Rattle.walk.specs.declared.stack.StackEntry.TheVariants.{Visit};
+    ghost use Rattle.walk.specs.Going.{Walking, GoesOn};
     ghost use Rattle.walk.specs.Outcome.{Ended};
     ghost use Rattle.walk.specs.Stacked.{entries, traced};
 
@@ -38,8 +39,7 @@ impl<G: FlowGraph> LiveRoot<'_, G> {
     /// Shows `visitor` what the root reaches, each value once and after what it uses, and answers the steps taken.
     ///
     /// The bytes lent are zero at the return, also where the visitor stopped the walk.
-    // No walk takes more steps than 1 + the values + 3 operands of each. A stack is cleared as it is made, and that took most of
-    // the time of a walk of a small graph: so the stack is as large as the graph asks for.
+    // A stack is cleared as it is made, which would take longer than most walks: so a walk begins with a small one.
     pub(crate) fn walk<V: Visitor>(
         &self,
         bytes: &mut [u8; MARKS],
@@ -48,32 +48,63 @@ impl<G: FlowGraph> LiveRoot<'_, G> {
         ensures ended { Ended (G.meaning self.now.graph.now) self.now.value.0 (λ shown. V.fits visitor.old shown visitor.new) (λ shown. V.stops visitor.old shown visitor.new) result }
         ensures cleared { bytes.new ≡ replicate 1024 0 }
     {
-        match self.graph.num_values() {
-            0..=64 => self.walk_over::<V, 257>(bytes, visitor),
-            65..=128 => self.walk_over::<V, 513>(bytes, visitor),
-            129..=256 => self.walk_over::<V, 1025>(bytes, visitor),
-            257..=512 => self.walk_over::<V, 2049>(bytes, visitor),
-            _ => self.walk_over::<V, 4097>(bytes, visitor),
+        let mut marks = Marks::new(bytes);
+        let mut stack = Stack::<256>::new();
+        stack.push(StackEntry::Trace(self.value));
+        match self.go_on(&mut marks, &mut stack, 0, visitor)? {
+            Progress::Done(steps) => Ok(steps),
+            Progress::Full(steps) => self.go_on_with_room(
+                &mut marks,
+                stack.as_slice(),
+                steps,
+                visitor,
+            ),
         }
     }
 
-    /// The same, where a stack has place for each step that the walk may take.
-    fn walk_over<V: Visitor, const CAP: usize>(
+    /// Goes on with entries over a stack that no walk fills.
+    // No walk takes more steps than 1 + the values + 3 operands of each. It is kept out of line, so that a small walk has a small frame.
+    #[inline(never)]
+    fn go_on_with_room<V: Visitor>(
         &self,
-        bytes: &mut [u8; MARKS],
+        marks: &mut Marks,
+        entries: &[StackEntry],
+        steps: u32,
         visitor: &mut V,
     ) -> Result<u32, V::Stop>
-        requires enough { 4 * length (G.meaning self.now.graph.now) < CAP }
-        requires small { CAP ≤ 4097 }
-        ensures ended { Ended (G.meaning self.now.graph.now) self.now.value.0 (λ shown. V.fits visitor.old shown visitor.new) (λ shown. V.stops visitor.old shown visitor.new) result }
-        ensures cleared { bytes.new ≡ replicate 1024 0 }
+        requires safe { Walking (G.meaning self.now.graph.now) self.now.value.0 marks.old.bytes.now entries.now steps (λ shown. Unit {0}) }
+        ensures went { (a : V) → Walking (G.meaning self.now.graph.now) self.now.value.0 marks.old.bytes.now entries.now steps (λ shown. V.fits a shown visitor.old) → Ended (G.meaning self.now.graph.now) self.now.value.0 (λ shown. V.fits a shown visitor.new) (λ shown. V.stops a shown visitor.new) result }
+        ensures same_reference { marks.new.bytes.ghost_name ≡ marks.old.bytes.ghost_name }
     {
-        let mut marks = Marks::new(bytes);
-        let mut stack = Stack::<CAP>::new();
-        stack.push(StackEntry::Trace(self.value));
-        let mut steps = 0;
-        while let Some(entry) = stack.pop() {
-            steps += 1;
+        let mut stack = Stack::<4100>::new();
+        let Ok(()) = stack.try_extend_from_slice(entries) else {
+            unreachable!()
+        };
+        let Progress::Done(steps) = self.go_on(marks, &mut stack, steps, visitor)? else {
+            unreachable!()
+        };
+        Ok(steps)
+    }
+
+    /// Goes on until nothing is left on the stack, or the stack may have no place for what one value more adds.
+    fn go_on<V: Visitor, const CAP: usize>(
+        &self,
+        marks: &mut Marks,
+        stack: &mut Stack<CAP>,
+        steps: u32,
+        visitor: &mut V,
+    ) -> Result<Progress, V::Stop>
+        requires safe { Walking (G.meaning self.now.graph.now) self.now.value.0 marks.old.bytes.now stack.old.items steps (λ shown. Unit {0}) }
+        ensures went { (a : V) → Walking (G.meaning self.now.graph.now) self.now.value.0 marks.old.bytes.now stack.old.items steps (λ shown. V.fits a shown visitor.old) → GoesOn (G.meaning self.now.graph.now) self.now.value.0 CAP (λ shown. V.fits a shown visitor.new) (λ shown. V.stops a shown visitor.new) marks.new.bytes.now stack.new.items result }
+        ensures safe { GoesOn (G.meaning self.now.graph.now) self.now.value.0 CAP (λ shown. Unit {0}) (λ shown stop. Unit {0}) marks.new.bytes.now stack.new.items result }
+        ensures same_reference { marks.new.bytes.ghost_name ≡ marks.old.bytes.ghost_name }
+    {
+        let mut taken = steps;
+        while stack.len() + 3 <= CAP {
+            let Some(entry) = stack.pop() else {
+                return Ok(Progress::Done(taken));
+            };
+            taken += 1;
             // The steps to come are data: closures on the stack would have to be allocated.
             match entry {
                 StackEntry::Visit(v) => {
@@ -82,11 +113,20 @@ impl<G: FlowGraph> LiveRoot<'_, G> {
                 }
                 StackEntry::Trace(v) => {
                     if !marks.is_marked(v) {
-                        self.expand(v, &mut stack);
+                        self.expand(v, stack);
                     }
                 }
             }
         }
-        Ok(steps)
+        Ok(Progress::Full(taken))
     }
+}
+
+/// How far a walk came over its stack, and in how many steps.
+#[derive(Clone, Copy, PartialEq, Eq, Debug)]
+pub(crate) enum Progress {
+    /// To its end.
+    Done(u32),
+    /// To a stack that may have no place for what one value more adds.
+    Full(u32),
 }
