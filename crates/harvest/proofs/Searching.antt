@@ -1,8 +1,8 @@
 -- What one turn of the search for a root keeps. Assumes nothing.
 use Rattle.std.proofs.Common.{◌≡◌, ℕ, zero, suc, ◌+◌, ◌-◌, ◌<◌, ◌≤◌, Bool, true, false, cond, eqb, List, [], ◌∷◌, ◌++◌, length, take, drop, get_or, Some, None, sym, refl, ap, ◌∙◌, subst, ⊎_elim, add-one, append-nil, arith, length-append}
-use Rattle.std.proofs.Math.Seq.{get_or-append_seam}
+use Rattle.std.proofs.Math.Seq.{drop-append-add, get_or-append_seam}
 use Rattle.std.specs.List.{cons_option}
-use Rattle.std.proofs.lemmas.List.{drop_more, drop_all, take_more, drop_at, take-append-drop}
+use Rattle.std.proofs.lemmas.List.{drop_more, drop_all, take_more, take-append-drop}
 use Rattle.std.proofs.lemmas.Bool.{lt-ltb, le-ltb, ne_eqb, cases_lt, cond-true, cond-false}
 use Rattle.ir.specs.declared.entities.Value.{Value}
 use Rattle.flow.specs.Layout.{Layout, InstRow, inst_at, no_inst, in_block, in_blocks, onward, in_order}
@@ -41,6 +41,17 @@ onward_start l b = ⊎_elim
 pub onward_all : (l : Layout) → onward l 0 0 ≡ in_order l
 onward_all l = onward_start l 0 ∙ (let e : l.num_blocks - 0 ≡ l.num_blocks = omega arith in ap (in_blocks l 0) e)
 
+-- the instructions from an index on, where so many of the block's were passed
+pub onward_passed : (l : Layout) (b first index inst : ℕ) → b < l.num_blocks → index ≡ length (in_block b (take inst l.insts)) → index ≤ first
+    → onward l b first ≡ drop (first - index) (in_block b (drop inst l.insts)) ++ in_blocks l (suc b) (l.num_blocks - suc b)
+onward_passed l b first index inst lt passed le =
+    let parts : in_block b l.insts ≡ in_block b (take inst l.insts) ++ in_block b (drop inst l.insts) =
+    ap (in_block b) (sym (take-append-drop inst l.insts)) ∙ in_block_append b (take inst l.insts) (drop inst l.insts) in
+    let n : first ≡ length (in_block b (take inst l.insts)) + (first - index) = omega (arith, passed, le) in
+    cond-true _ _ _ (lt-ltb b l.num_blocks lt)
+    ∙ ap (λ xs. xs ++ in_blocks l (suc b) (l.num_blocks - suc b))
+    (ap (drop first) parts ∙ ap (λ k. drop k (in_block b (take inst l.insts) ++ in_block b (drop inst l.insts))) n ∙ drop-append-add (in_block b (take inst l.insts)) (in_block b (drop inst l.insts)) (first - index))
+
 -- ---- the search
 
 -- the index in a block at which the search begins
@@ -77,6 +88,13 @@ module _ (g : Flow) (l : Layout) (from : Place) where
         drop_nil zero = refl
         drop_nil (suc n) = refl
 
+    -- a block whose first instructions were passed
+    pub insts_start : (first index inst : ℕ) → first ≡ start_at from b → index ≡ length (in_block b (take inst l.insts)) → index ≤ first → Blocks g l from b → Insts g l from b first index inst
+    insts_start first index inst is passed le t = record {
+      left = t.left ∙ ap (roots_at g) (ap (onward l b) (sym is) ∙ onward_passed l b first index inst lt passed le);
+      passed = passed;
+    }
+
     module _ (first index inst : ℕ) (i : inst < length l.insts) (t : Insts g l from b first index inst) where
       front : drop inst l.insts ≡ inst_at l inst ∷ drop (inst + 1) l.insts
       front = drop_more l.insts inst no_inst i
@@ -107,7 +125,7 @@ module _ (g : Flow) (l : Layout) (from : Place) where
         own_front : in_block b (drop inst l.insts) ≡ inst_at l inst ∷ in_block b (drop (inst + 1) l.insts)
         own_front = ap (in_block b) front ∙ cond-true _ _ _ own
 
-        one_more : length (in_block b (take (inst + 1) l.insts)) ≡ index + 1
+        pub one_more : length (in_block b (take (inst + 1) l.insts)) ≡ index + 1
         one_more =
             let e : in_block b (inst_at l inst ∷ []) ≡ inst_at l inst ∷ [] = cond-true _ _ _ own in
             omega (arith, ap length passed_more, length-append (in_block b (take inst l.insts)) (in_block b (inst_at l inst ∷ [])), ap length e, t.passed)
@@ -139,12 +157,8 @@ module _ (g : Flow) (l : Layout) (from : Place) where
 
           behind : onward l b (index + 1) ≡ rest l b first (index + 1) (inst + 1)
           behind =
-              let m : 0 ≡ first - (index + 1) = omega arith in
-              let parts : in_block b l.insts ≡ in_block b (take (inst + 1) l.insts) ++ in_block b (drop (inst + 1) l.insts) =
-              ap (in_block b) (sym (take-append-drop (inst + 1) l.insts)) ∙ in_block_append b (take (inst + 1) l.insts) (drop (inst + 1) l.insts) in
-              cond-true _ _ _ (lt-ltb b l.num_blocks lt)
-              ∙ ap (λ xs. drop (index + 1) xs ++ in_blocks l (suc b) (l.num_blocks - suc b)) parts
-              ∙ ap (λ xs. xs ++ in_blocks l (suc b) (l.num_blocks - suc b)) (drop_at (in_block b (take (inst + 1) l.insts)) (in_block b (drop (inst + 1) l.insts)) (index + 1) one_more)
+              let m : (index + 1) - (index + 1) ≡ first - (index + 1) = omega arith in
+              onward_passed l b (index + 1) (index + 1) (inst + 1) lt (sym one_more) (omega arith)
               ∙ ap (λ k. drop k (in_block b (drop (inst + 1) l.insts)) ++ in_blocks l (suc b) (l.num_blocks - suc b)) m
 
           -- the instruction stands in its block at its index

@@ -35,3 +35,9 @@ abbrev pub NextFrom : Flow → Layout → Place → List Row → List Row → Re
 NextFrom g l from before after (Err why) = ⊥
 NextFrom g l from before after (Ok None) = (roots_from g l from ≡ []) × (after ≡ before)
 NextFrom g l from before after (Ok (Some c)) = NextRoot g l from c.written.root c.next × WrittenOf g before after c.written
+
+-- where a harvest from a place on stands after an answer: behind the candidate, and where it was if there is none
+abbrev pub place_after : Place → Result (Option Candidate) Refusal → Place
+place_after from (Err why) = from
+place_after from (Ok None) = from
+place_after from (Ok (Some c)) = c.next

@@ -1,17 +1,14 @@
 // The next candidate.
-ghost use Rattle.std.specs.Prelude.{◌≡◌, ◌<◌, ◌*◌, ◌≤◌, ◌++◌, drop, length, replicate, Ok, Err};
+ghost use Rattle.std.specs.Prelude.{◌≡◌, ◌<◌, ◌≤◌, ◌++◌, drop, length, replicate, Err};
 ghost use Rattle.ir.specs.Entities.{too_short};
 ghost use Rattle.harvest.specs.Candidates.{NextFrom};
 
-use crate::lent::ensure_room;
 use crate::place::Place;
-use crate::search::find_root;
-use crate::translate::Translation;
-use crate::written::{ROWS, Written};
+use crate::under_way::Harvest;
+use crate::written::Written;
 use flow::LaidOut;
 use ir::Refusal;
 use souper::Row;
-use walk::MARKS;
 
 /// A candidate that was written, and the place behind its root's instruction.
 #[derive(Clone, Copy, PartialEq, Eq, Debug)]
@@ -35,47 +32,5 @@ pub fn next_candidate<G: LaidOut>(
     ensures next { 1024 ≤ length marks.old → 2048 ≤ length rows.old → NextFrom (G.FlowGraph.meaning graph.now) (G.layout graph.now) from rows.old rows.new result }
     ensures cleared { 1024 ≤ length marks.old → 2048 ≤ length rows.old → marks.new ≡ replicate 1024 0 ++ drop 1024 marks.old }
 {
-    ensure_room(marks.len(), rows.len())?;
-    Ok(next_lent(graph, from, marks, rows))
-}
-
-/// The same where enough is lent.
-// Of less than enough nothing is answered.
-fn next_lent<G: LaidOut>(
-    graph: &G,
-    from: Place,
-    marks: &mut [u8],
-    rows: &mut [Row],
-) -> Option<Candidate>
-    ensures next { 1024 ≤ length marks.old → 2048 ≤ length rows.old → NextFrom (G.FlowGraph.meaning graph.now) (G.layout graph.now) from rows.old rows.new (Ok result) }
-    ensures cleared { 1024 ≤ length marks.old → 2048 ≤ length rows.old → marks.new ≡ replicate 1024 0 ++ drop 1024 marks.old }
-{
-    let bytes = marks.first_chunk_mut()?;
-    let table = rows.first_chunk_mut::<ROWS>()?;
-    next_within(graph, from, bytes, table)
-}
-
-/// The same over a table that has place for two rows for each value of the graph.
-pub(crate) fn next_within<G: LaidOut>(
-    graph: &G,
-    from: Place,
-    marks: &mut [u8; MARKS],
-    rows: &mut [Row],
-) -> Option<Candidate>
-    requires { 2 * length (G.FlowGraph.meaning graph.now) ≤ length rows.old }
-    ensures next { NextFrom (G.FlowGraph.meaning graph.now) (G.layout graph.now) from rows.old rows.new (Ok result) }
-    ensures cleared { marks.new ≡ replicate 1024 0 }
-{
-    let Some(found) = find_root(graph, from, marks) else {
-        *marks = [0; MARKS];
-        return None;
-    };
-    let translation = Translation {
-        graph,
-        value: found.root,
-    };
-    Some(Candidate {
-        written: translation.write(marks, rows),
-        next: found.next,
-    })
+    Harvest::at(graph, from).next(marks, rows)
 }

@@ -2,8 +2,9 @@
 ghost use Rattle.std.specs.Prelude.{◌≡◌, take, vec_items, IfOk};
 ghost use Rattle.harvest.specs.Harvest.{Harvested};
 
-use crate::candidate::{Candidate, next_within};
+use crate::candidate::Candidate;
 use crate::place::Place;
+use crate::under_way::Harvest;
 use flow::LaidOut;
 use ir::Value;
 use souper::Row;
@@ -59,10 +60,9 @@ fn harvest_all<G: LaidOut>(heap: Global, graph: &G) -> Result<Vec<Lhs>, AllocErr
     let mut table = vec![in heap; Row::BLANK; room]?;
     let rows = table.as_mut_slice();
     let mut all = Vec::new(heap);
-    let mut from = Place { block: 0, index: 0 };
-    while let Some(candidate) = next_within(graph, from, &mut marks, rows) {
+    let mut harvest = Harvest::at(graph, Place { block: 0, index: 0 });
+    while let Some(candidate) = harvest.next_within(&mut marks, rows) {
         all.push(copied(heap, candidate, rows)?)?;
-        from = candidate.next;
     }
     Ok(all)
 }

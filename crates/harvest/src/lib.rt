@@ -18,6 +18,7 @@ mod root;
 mod search;
 mod translate;
 mod translator;
+mod under_way;
 mod value;
 mod value_rows;
 mod written;
@@ -26,6 +27,7 @@ pub use candidate::{Candidate, next_candidate};
 pub use harvest::{Lhs, do_souper_harvest};
 pub use one::harvest_candidate_lhs;
 pub use place::Place;
+pub use under_way::Harvest;
 pub use value::translate_value;
 pub use written::{ROWS, Written};
 
