@@ -2,12 +2,13 @@
 use Rattle.std.proofs.Common.{◌≡◌, ℕ, zero, suc, ◌+◌, ◌<◌, ◌≤◌, Bool, true, false, List, length, Some, None, Option, MatchOption, sym, refl, ap, ◌∙◌, subst, inl, inr, arith}
 use Rattle.std.proofs.lemmas.Bool.{cases_lt}
 use Rattle.std.specs.Option.{option_map}
-use Rattle.ir.specs.Refusals.{because, or_else, first_fault}
+use Rattle.ir.specs.Options.{or_else}
+use Rattle.ir.specs.Refusals.{because, first_fault}
 use Rattle.ir.specs.declared.refusal.Cause.{Cause}
 use Rattle.ir.specs.declared.refusal.Cause.TheVariants.{NotRecords}
 use Rattle.ir.specs.declared.refusal.Refusal.{Refusal}
 use Rattle.ir.proofs.Faults.{none_stands}
-use Rattle.flow.proofs.Sequences.{none_is_no_some, some_injective}
+use Rattle.ir.proofs.Options.{none_is_no_some, some_injective}
 use Rattle.records.specs.Faults.{is_whole, record_fault, records_refusal}
 use Rattle.records.specs.Fields.{record_count}
 use Rattle.records.specs.RowsOf.{rows_of}
