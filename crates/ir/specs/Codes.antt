@@ -199,6 +199,10 @@ cause_entry Undefined = record { number = 18; meaning = codes "a row is undefine
 cause_entry BadName = record { number = 19; meaning = codes "name unfit for printing" }
 cause_entry WidthCheck = record { number = 20; meaning = codes "width check failed" }
 
+-- every cause, in the order of the numbers
+abbrev pub causes : List Cause
+causes = NotLive ∷ Unknown ∷ WrongCount ∷ Widths ∷ Immediate ∷ TableFull ∷ Attached ∷ ResolvesToDestination ∷ Loop ∷ NotPinnable ∷ PinsFull ∷ NotRecords ∷ BrokenLayout ∷ TooShort ∷ NotInteger ∷ InputTooWide ∷ Trapped ∷ Undefined ∷ BadName ∷ WidthCheck ∷ []
+
 abbrev pub cause_number : Cause → ℕ
 cause_number c = (cause_entry c).number
 

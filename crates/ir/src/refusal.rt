@@ -1,5 +1,5 @@
 ghost use Rattle.std.specs.Prelude.{◌≡◌, not, nat_lt, [], ◌∷◌, Some};
-ghost use Rattle.ir.specs.Codes.{cause_number, cause_meaning};
+ghost use Rattle.ir.specs.Codes.{cause_number, cause_meaning, causes};
 ghost use Rattle.ir.specs.Entities.{too_few};
 ghost use Rattle.ir.specs.Printed.{refusal_text};
 ghost use Rattle.ir.specs.Refusals.{answer_unless, because, checked, first};
@@ -53,8 +53,7 @@ pub enum Cause {
 }
 
 impl Cause {
-    /// Every cause, in the order of the numbers.
-    pub const ALL: [Cause; 20] = [
+    const ALL: [Cause; 20] = [
         Cause::NotLive,
         Cause::Unknown,
         Cause::WrongCount,
@@ -76,6 +75,13 @@ impl Cause {
         Cause::BadName,
         Cause::WidthCheck,
     ];
+
+    /// Every cause, in the order of the numbers.
+    pub fn all() -> [Cause; 20]
+        ensures { result ≡ causes }
+    {
+        Cause::ALL
+    }
 
     /// The cause in words.
     pub fn meaning(self) -> &'static str

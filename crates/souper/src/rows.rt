@@ -38,3 +38,6 @@ impl Row {
         operands: RowOperands::Empty,
     };
 }
+
+// A blank is no row, and passes no check of widths.
+const _: () = prove!(Row::BLANK.width == 0);

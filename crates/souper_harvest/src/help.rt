@@ -91,7 +91,7 @@ fn print_opcodes(rt: &impl Print) -> io::Result<()> {
 /// Lists the refusals by their numbers.
 fn print_causes(rt: &impl Print) -> io::Result<()> {
     println!(rt; "The refusals, by their numbers:\n")?;
-    for cause in Cause::ALL {
+    for cause in Cause::all() {
         println!(rt; "    {:>2}  {cause}", u8::from(cause))?;
     }
     Ok(())
