@@ -6,7 +6,7 @@
 // differ from run to run.
 use anyhow::anyhow;
 use flow::LaidOut;
-use harvest::{Place, ROWS, do_souper_harvest, next_candidate};
+use harvest::{Harvest, Place, ROWS, do_souper_harvest};
 use image::{Image, check_image};
 use souper::Row;
 use std::alloc::{AllocError, Global};
@@ -104,13 +104,12 @@ fn count_each(
     rows: &mut [Row],
 ) -> Result<u32, AllocError> {
     let tabled = Tabled::of(alloc, image)?;
-    let mut from = Place { block: 0, index: 0 };
+    let mut harvest = Harvest::at(&tabled, Place { block: 0, index: 0 });
     let mut found = 0;
     for _ in 0..image.num_insts() {
-        let Ok(Some(candidate)) = next_candidate(&tabled, from, marks, rows) else {
+        let Ok(Some(_)) = harvest.next(marks, rows) else {
             break;
         };
-        from = candidate.next;
         found = u32::saturating_add(found, 1);
     }
     Ok(found)
