@@ -212,3 +212,16 @@ pub fn row_inputs(meaning: &Meaning, translation: &Translation, inputs: &[u64]) 
     }
     row_inputs
 }
+
+/// The same as `souper_harvest --eval` has them: the row of a variable holds the variable's input, whatever its type and however wide the input.
+pub fn shown_row_inputs(meaning: &Meaning, translation: &Translation, inputs: &[u64]) -> Vec<u64> {
+    let mut row_inputs = row_inputs(meaning, translation, inputs);
+    for value in &translation.values {
+        if meaning.definitions[*value] == Definition::Variable {
+            if let Some(row) = translation.row_of[*value] {
+                row_inputs[row] = inputs[meaning.originals[*value]];
+            }
+        }
+    }
+    row_inputs
+}

@@ -1,5 +1,5 @@
 //! Compares what our program prints of graphs behind views: pins, candidates and numbers.
-use crate::evaluate::{ir_number, row_inputs, row_number};
+use crate::evaluate::{ir_number, row_number, shown_row_inputs};
 use crate::generate::random_graph;
 use crate::graph::Graph;
 use crate::harvests::{due_texts, first_difference};
@@ -156,7 +156,7 @@ fn compare_number(run: &Run, random: &mut Random, image: &Path, view: &View) -> 
         is_due &= match translation.rows.len().checked_sub(1) {
             None => line == Some(&format!("v{value} is a constant, and has no row")),
             Some(last) => {
-                let held = row_inputs(meaning, &translation, &inputs);
+                let held = shown_row_inputs(meaning, &translation, &inputs);
                 tells(line, &format!("%{last}"), row_number(&translation.rows, last, &held))
             }
         };
