@@ -93,10 +93,6 @@ module _ (size : ℕ) (targets : ℕ → List ℕ) (v : ℕ) where
       low : done < length met
       low = slice_get_within met done u at
 
--- a graph has no more nodes than a graph can have
-pub widened : (size : ℕ) (targets : ℕ → List ℕ) → Finite size targets → Finite 1024 targets
-widened size targets finite = record { few = omega arith; inside = λ v w h. omega (arith, finite.few, finite.inside v w h) }
-
 module _ (size : ℕ) (targets : ℕ → List ℕ) (finite : Finite size targets) where
   -- only nodes have a way on
   pub path_inside : {v w : ℕ} → Path targets v w → v < size

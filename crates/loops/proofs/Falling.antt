@@ -76,7 +76,7 @@ module _ (targets : ℕ → List ℕ) (states : List State) where
     path_falls falls {v} {w} (one h) = falls v w h
     path_falls falls {v} {w} (more {a = b} h p) = below_trans (slice_get states w) (slice_get states b) (slice_get states v) (path_falls falls p) (falls v b h)
 
-    pub falling_loopless : RanksFall targets states → 1024 ≤ length states → Loopless targets
+    pub falling_loopless : RanksFall targets states → size ≤ length states → Loopless targets
     falling_loopless falls long v p =
-        let here : slice_get states v ≡ Some (get_or states v New) = slice_get-get_or states v New (omega (arith, long, finite.few, path_inside size targets finite p)) in
+        let here : slice_get states v ≡ Some (get_or states v New) = slice_get-get_or states v New (omega (arith, long, path_inside size targets finite p)) in
         not_below_itself (get_or states v New) (ap (λ s. is_below s s) (sym here) ∙ path_falls falls p)

@@ -2,4 +2,3 @@ mod Closure
 mod Counted
 mod Falling
 mod Meetings
-mod FirstLoop

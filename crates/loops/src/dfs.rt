@@ -1,4 +1,4 @@
-ghost use Rattle.std.specs.Prelude.{◌+◌, ◌*◌, ◌≤◌};
+ghost use Rattle.std.specs.Prelude.{◌≡◌, ◌+◌, ◌*◌, ◌≤◌, length, take};
 ghost use Rattle.arrayvec.specs.ArrayVec.{array_vec_len};
 ghost use Rattle.loops.specs.declared.dfs.TheConstants.{STACK_LEN};
 ghost use Rattle.loops.specs.Ranks.{unopened};
@@ -22,44 +22,62 @@ pub(crate) enum State {
     Finished(u16),
 }
 
-/// How far a depth-first search has come with each node, once it has gone through the whole graph.
-pub(crate) fn search<G: Digraph>(graph: &G) -> [State; NODES] {
-    let mut dfs = Dfs::new(graph);
-    for root in (0..graph.num_nodes()).map(Value).filter_map(Node::new) {
-        dfs.rank_from(root);
-    }
-    dfs.states
-}
-
 /// A depth-first search of a graph, which ranks each node as it is finished, so after what it leads to.
 // Nothing compares or prints a search.
 #[derive(Drop)]
-struct Dfs<'a, G> {
+pub(crate) struct Dfs<'a, G> {
     graph: &'a G,
+    /// How many nodes the graph has.
+    size: u32,
     // An array with a place for each node: a search allocates nothing.
     states: [State; NODES],
     /// The rank of the node that is finished next.
     next: u16,
     stack: ArrayVec<Node, STACK_LEN>,
+    ghost few: { size ≤ 1024 },
     ghost room: { array_vec_len stack + 3 * unopened states ≤ STACK_LEN },
 }
 
 impl<'a, G: Digraph> Dfs<'a, G> {
     /// Each node is new.
-    fn new(graph: &'a G) -> Self {
+    pub(crate) fn new(graph: &'a G) -> Self
+        ensures { result.size ≡ G.size graph.now }
+    {
         Dfs {
             graph,
+            size: graph.num_nodes(),
             states: [State::New; NODES],
             next: 0,
             stack: ArrayVec::new(),
         }
     }
 
+    /// Ranks every node, each one that has no rank yet with what it leads to.
+    pub(crate) fn rank_all(&mut self)
+        ensures { self.new.size ≡ self.old.size }
+    {
+        for v in 0..self.size {
+            if let Some(root) = self.new_node(Value(v)) {
+                self.rank_from(root);
+            }
+        }
+    }
+
+    /// How far the search has come with each node. What lies past the nodes has no state.
+    pub(crate) fn states(&self) -> &[State]
+        ensures value { result.now ≡ take self.now.size self.now.states }
+        ensures len { length result.now ≡ self.now.size }
+    {
+        &self.states[..self.size as usize]
+    }
+
     /// Ranks `root` and what it leads to, where they have no rank yet.
     ///
     /// A node is finished when the search comes back to it, after the targets that were pushed on top of it. So without
     /// loops each target has a lower rank.
-    fn rank_from(&mut self, root: Node) {
+    fn rank_from(&mut self, root: Node)
+        ensures { self.new.size ≡ self.old.size }
+    {
         self.stack.clear();
         self.stack.push(root);
         while let Some(v) = self.stack.last().copied() {
@@ -85,8 +103,8 @@ impl<'a, G: Digraph> Dfs<'a, G> {
         }
     }
 
-    /// The node that `w` is, none where it is no node or the search has come to it.
+    /// The node that `w` is, none where it lies past the nodes or the search has come to it.
     fn new_node(&self, w: Value) -> Option<Node> {
-        Node::new(w).filter(|node| self.states[node.index()] == State::New)
+        Node::new(w, self.size).filter(|node| self.states[node.index()] == State::New)
     }
 }

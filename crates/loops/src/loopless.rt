@@ -4,15 +4,14 @@ ghost use Rattle.ir.specs.Entities.{values};
 ghost use Rattle.flow.specs.Loops.{Loopless};
 ghost use Rattle.loops.specs.Ranks.{is_lower, RanksFall};
 
-use crate::dfs::{State, search};
+use crate::dfs::{Dfs, State};
 use crate::digraph::Digraph;
 use crate::lowest::lowest_in_loop;
-use crate::node::NODES;
 use ir::{Operands, Value};
 
 /// Whether `w` is no node, or has a lower rank than `v`.
 #[tactic(auto, unfolding(crate::specs::Ranks::is_below))]
-fn is_lower(states: &[State; NODES], v: Value, w: Value) -> bool
+fn is_lower(states: &[State], v: Value, w: Value) -> bool
     ensures { result ≡ is_lower states.now v.0 w.0 }
 {
     match (states.get(w.0 as usize), states.get(v.0 as usize)) {
@@ -23,14 +22,14 @@ fn is_lower(states: &[State; NODES], v: Value, w: Value) -> bool
 }
 
 /// Whether each of the targets is no node, or has a lower rank than `v`.
-fn all_lower(states: &[State; NODES], v: Value, targets: Operands) -> bool
+fn all_lower(states: &[State], v: Value, targets: Operands) -> bool
     ensures { result ≡ list_all (is_lower states.now v.0) (values targets) }
 {
     targets.iter().all(|w| is_lower(states, v, w))
 }
 
 /// Whether the ranks fall along every step from node to node.
-fn ranks_fall<G: Digraph>(graph: &G, states: &[State; NODES]) -> bool
+fn ranks_fall<G: Digraph>(graph: &G, states: &[State]) -> bool
     ensures { Decides result (RanksFall (G.steps graph.now) states.now) }
 {
     (0..graph.num_nodes())
@@ -42,7 +41,9 @@ fn ranks_fall<G: Digraph>(graph: &G, states: &[State; NODES]) -> bool
 fn has_falling_ranks<G: Digraph>(graph: &G) -> bool
     ensures { result ≡ true → Loopless (G.steps graph.now) }
 {
-    ranks_fall(graph, &search(graph))
+    let mut dfs = Dfs::new(graph);
+    dfs.rank_all();
+    ranks_fall(graph, dfs.states())
 }
 
 /// Whether there is no loop.

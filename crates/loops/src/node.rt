@@ -25,11 +25,13 @@ impl Model for Node {
 }
 
 impl Node {
-    /// The node that `v` is, none where it lies past the nodes.
-    pub(crate) fn new(v: Value) -> Option<Node>
-        ensures { MatchOption result (1024 ≤ v.0) (λ node. (node ≡ v.0) × (node < 1024)) }
+    /// The node that `v` is in a graph with `size` nodes, none where it lies past them.
+    #[inline]
+    pub(crate) fn new(v: Value, size: u32) -> Option<Node>
+        requires { size ≤ 1024 }
+        ensures { MatchOption result (size ≤ v.0) (λ node. (node ≡ v.0) × (node < size)) }
     {
-        if v.0 < NODES as u32 {
+        if v.0 < size {
             Some(Node { number: v.0 as u16 })
         } else {
             None

@@ -5,4 +5,5 @@ use Rattle.loops.proofs.met.Met.insert_all.Given as goal
 
 -- the targets that are left do the rest
 abbrev pub invariant-loop-w : goal.invariant-loop-w
-invariant-loop-w l = meet_all 1024 l.self (values l.w-iterator) ≡ meet_all 1024 l.fn.self (values l.fn.targets)
+invariant-loop-w l =
+    (l.self.size ≡ l.fn.self.size) × (meet_all l.self.size l.self.nodes (values l.w-iterator) ≡ meet_all l.fn.self.size l.fn.self.nodes (values l.fn.targets))

@@ -1,9 +1,0 @@
-use Rattle.std.proofs.Common.{◌-◌}
-use Rattle.loops.proofs.Closure.{Spreads}
-use Rattle.loops.proofs.lowest.reached.Given as goal
-
-abbrev pub invariant-loop-u : goal.invariant-loop-u
-invariant-loop-u g l = Spreads 1024 (g.G.Digraph.steps l.graph) l.fn.start.0 l.met l.done
-
-abbrev pub decreases-loop-u : goal.decreases-loop-u
-decreases-loop-u g l = 1024 - l.done
