@@ -1,5 +1,5 @@
 -- An index lists the records of each kind. Assumes nothing.
-use Rattle.std.proofs.Common.{◌≡◌, ℕ, zero, suc, ◌+◌, ◌-◌, ◌≤◌, Bool, true, false, cond, List, [], ◌∷◌, ◌++◌, length, filter, sym, refl, ap, ◌∙◌, add-zero, suc-add, zero-add, arith}
+use Rattle.std.proofs.Common.{◌≡◌, ℕ, zero, suc, ◌+◌, ◌-◌, ◌<◌, ◌≤◌, Bool, true, false, cond, List, [], ◌∷◌, ◌++◌, length, filter, sym, refl, ap, ◌∙◌, add-zero, suc-add, zero-add, arith}
 use Rattle.std.specs.List.{range_with_len}
 use Rattle.std.proofs.lemmas.List.Elements.{filter-append}
 use Rattle.std.proofs.lemmas.List.{append-nil, length-append}
@@ -31,3 +31,13 @@ module _ (p : ℕ → Bool) where
   kept_length m n l =
       let e : m + (n - m) ≡ n = omega arith in
       omega (arith, ap (λ k. length (filter p (range_with_len 0 k))) (sym e), ap length (kept_split m (n - m)), length-append (filter p (range_with_len 0 m)) (filter p (range_with_len m (n - m))))
+
+  -- what is kept with the number k, if it is kept
+  pub kept_here : (k : ℕ) (is : Bool) (before after : List ℕ) → p k ≡ is → before ≡ filter p (range_with_len 0 k) → after ≡ with_noted is k before → after ≡ filter p (range_with_len 0 (k + 1))
+  kept_here k is before after e b a = a ∙ ap (with_noted is k) b ∙ ap (λ t. with_noted t k (filter p (range_with_len 0 k))) (sym e) ∙ sym (kept_more k)
+
+  -- one that is kept, behind a list of c
+  pub kept_over : (k n c : ℕ) (before : List ℕ) → k < n → p k ≡ true → before ≡ filter p (range_with_len 0 k) → length before ≡ c → c < length (filter p (range_with_len 0 n))
+  kept_over k n c before l e b full =
+      let more = kept_more k ∙ ap (λ t. with_noted t k (filter p (range_with_len 0 k))) e in
+      omega (arith, ap length b, kept_length (k + 1) n (omega arith), ap length more, length-append (filter p (range_with_len 0 k)) (k ∷ []))

@@ -7,11 +7,6 @@ use Rattle.std.specs.Option.{option_map, unwrap_or}
 use Rattle.std.specs.Result.{result_unwrap_or}
 use Rattle.std.specs.Simd.{first_chunks}
 use Rattle.ir.specs.Codes.{known}
-use denote.Enum.Bare.{sameb}
-use Rattle.records.specs.Kinds.{is_kind}
-use Rattle.records.specs.contracts.record.Kind.{the_type}
-use Rattle.records.specs.declared.record.Kind.{Kind}
-use Rattle.records.specs.declared.record.Kind.TheVariants.{Value, Inst, Unknown}
 
 -- piece k of the first m pieces of n elements
 pub piece_at : {X : Type 0} (n m k : ℕ) (xs : List X) (d : List X) → k < m → get_or (first_chunks n m xs) k d ≡ take n (drop (n * k) xs)
@@ -82,15 +77,3 @@ byte_in r at n bs e i l = ap (λ l. get_or l i 0) e ∙ get_or-take (at + n - at
 pub known_or : {A : Type 0} (o : Option A) (d : A) → result_unwrap_or (known o) d ≡ unwrap_or o d
 known_or None d = refl
 known_or (Some x) d = refl
-
--- whether two kinds are one
-pub same_kind : (a b : Kind) → sameb the_type a b ≡ is_kind b a
-same_kind Value Value = refl
-same_kind Value Inst = refl
-same_kind Value Unknown = refl
-same_kind Inst Value = refl
-same_kind Inst Inst = refl
-same_kind Inst Unknown = refl
-same_kind Unknown Value = refl
-same_kind Unknown Inst = refl
-same_kind Unknown Unknown = refl

@@ -1,5 +1,5 @@
 // Which records are of values and which of instructions, and what other records say by the numbers of their kind.
-ghost use Rattle.std.specs.Prelude.{◌≡◌, ◌≤◌, length, nat_le, is_ok, IfOk, IfErr};
+ghost use Rattle.std.specs.Prelude.{◌≡◌, ◌≤◌, ◌&&◌, [], length, nat_le, is_ok, IfOk, IfErr, OnOk};
 ghost use Rattle.records.specs.Kinds.{places_of, value_places, inst_places};
 
 use crate::check::Counts;
@@ -14,17 +14,24 @@ const MOST_OF_KIND: usize = 1024;
 /// The record numbers of one kind, in order.
 type Places = ArrayVec<usize, MOST_OF_KIND>;
 
-/// The record numbers of a kind, unless there are too many.
-fn places_of(bytes: &[u8], kind: Kind) -> Result<Places, Cause>
-    ensures listed { IfOk result (λ p. p.items ≡ places_of kind bytes.now) }
-    ensures few { is_ok result ≡ nat_le (length (places_of kind bytes.now)) 1024 }
+/// Puts the record numbers of each kind into its list, unless there are too many. One pass over the records fills both lists,
+/// and ends at the first record that its list has no place for: a refusal takes no longer where more records follow.
+fn list_places(bytes: &[u8], values: &mut Places, insts: &mut Places) -> Result<(), Cause>
+    requires { (values.old.items ≡ []) × (insts.old.items ≡ []) }
+    ensures values { OnOk result (values.new.items ≡ places_of Kind.Value bytes.now) }
+    ensures insts { OnOk result (insts.new.items ≡ places_of Kind.Inst bytes.now) }
+    ensures few { is_ok result ≡ nat_le (length (places_of Kind.Value bytes.now)) 1024 && nat_le (length (places_of Kind.Inst bytes.now)) 1024 }
     ensures refused { IfErr result (λ why. why ≡ Cause.NotRecords) }
 {
-    let mut places = Places::new();
-    for k in (0..bytes.len() / RECORD_LEN).filter(|k| Record::of(bytes, *k).is_of(kind)) {
-        places.try_push(k).map_err(|_| Cause::NotRecords)?;
+    for k in 0..bytes.len() / RECORD_LEN {
+        match Record::of(bytes, k).kind() {
+            Kind::Value => values.try_push(k),
+            Kind::Inst => insts.try_push(k),
+            Kind::Unknown => Ok(()),
+        }
+        .map_err(|_| Cause::NotRecords)?;
     }
-    Ok(places)
+    Ok(())
 }
 
 /// An image with the records of each kind numbered.
@@ -52,8 +59,9 @@ impl<'a> Numbered<'a> {
         if bytes.len() % RECORD_LEN != 0 {
             return Err(Cause::NotRecords);
         }
-        let values = places_of(bytes, Kind::Value)?;
-        let insts = places_of(bytes, Kind::Inst)?;
+        let mut values = Places::new();
+        let mut insts = Places::new();
+        list_places(bytes, &mut values, &mut insts)?;
         Ok(Numbered {
             bytes,
             values,

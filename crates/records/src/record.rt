@@ -1,6 +1,5 @@
 ghost use Rattle.std.specs.Prelude.{◌≡◌, ◌+◌, ◌≤◌, slice_range};
 ghost use Rattle.records.specs.Fields.{record_at, number, zeros, kind_by, kind_of, value_record, inst_record};
-ghost use Rattle.records.specs.Kinds.{is_kind};
 
 use crate::inst_record::InstRecord;
 use crate::value_record::ValueRecord;
@@ -90,14 +89,6 @@ impl Record<'_> {
         ensures { result ≡ kind_of self.entry.bytes.now }
     {
         Kind::from(self.bytes[0])
-    }
-
-    /// Whether the record is of a kind.
-    #[tactic(auto, using(crate::proofs::Lookups::same_kind))]
-    pub(crate) fn is_of(self, kind: Kind) -> bool
-        ensures { result ≡ is_kind kind (kind_of self.entry.bytes.now) }
-    {
-        self.kind() == kind
     }
 
     // Methods and no `From`: any record can be read as either, and only one that was checked means what is read.
