@@ -15,7 +15,7 @@ use walk::{MARKS, post_order_dfs};
 
 /// A new alias to be judged: `dest`, as another name for a live `original`.
 #[derive(Clone, Copy, Debug)]
-pub(crate) struct NewAlias<'a> {
+pub struct NewAlias<'a> {
     pub graph: &'a DataFlowGraph,
     pub dest: Value,
     pub original: Value,

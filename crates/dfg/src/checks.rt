@@ -77,13 +77,14 @@ impl Tables {
     ) -> Result<Value, Refusal>
         ensures { result ≡ answer_unless (first (checks (held self.now) marks (ChangeToAlias dest src))) (value (original (held self.now) src.0)) }
     {
-        let original = self.resolve_aliases(src);
         ensure(self.is_live(dest) && self.is_live(src), Cause::NotLive)?;
         ensure(
             self.value_width(dest) == self.value_width(src),
             Cause::Widths,
         )?;
         ensure(!self.is_attached(dest), Cause::Attached)?;
+        // Only here: a call that is refused before this follows no aliases.
+        let original = self.resolve_aliases(src);
         ensure(original != dest, Cause::ResolvesToDestination)?;
         ensure_length(marks, 1024)?;
         Ok(original)

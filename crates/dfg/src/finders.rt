@@ -16,11 +16,11 @@ use walk::{MARKS, Visitor};
 
 /// A value was found whose aliases lead through the destination.
 #[derive(Clone, Copy, PartialEq, Eq, Debug)]
-pub(crate) struct Found;
+pub struct Found;
 
 /// Looks for a value whose aliases lead through the destination, and stops at the first.
 #[derive(Debug, Drop)]
-pub(crate) struct AliasFinder<'a> {
+pub struct AliasFinder<'a> {
     pub alias: NewAlias<'a>,
 }
 
@@ -82,7 +82,7 @@ fn any_marked(marked: &[bool], args: Operands) -> bool
 /// A walk shows a value after what it uses, so a value reaches one if its own aliases lead through the destination or if one
 /// of its operands is marked.
 #[derive(Debug, Drop)]
-pub(crate) struct LoopMarker<'a> {
+pub struct LoopMarker<'a> {
     pub alias: NewAlias<'a>,
     /// By value number.
     // An array of fixed length: a building call allocates nothing.

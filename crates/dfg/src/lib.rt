@@ -6,13 +6,13 @@
 //! the loops of a new alias.
 #![tactic(auto)]
 
-mod alias_loops;
+pub mod alias_loops;
 mod building;
 mod checks;
 mod decode;
 pub mod dfg;
 mod edits;
-mod finders;
+pub mod finders;
 pub mod queries;
 mod reads;
 mod tables;
