@@ -1,50 +1,35 @@
 -- The first word of a line and the first line of a text, as they are cut off. Assumes nothing.
-use Rattle.std.proofs.Common.{◌≡◌, ℕ, suc, ◌+◌, ◌<◌, ◌≤◌, Bool, true, false, not, nat_lt, ltb-true, ltb-false, List, [], ◌∷◌, ◌++◌, length, get_or, slice_get, slice_index_or, take, drop, cond, Some, None, Option, MatchOption, Bor, ◌⊎◌, sym, refl, ap, subst, ◌∙◌, ⊎_elim, append_assoc, append-nil, drop-cons, length-append, arith}
-use Rattle.std.proofs.Math.ListN.{drop_of_length-le, get_or-append}
+use Rattle.std.proofs.Common.{◌≡◌, ℕ, suc, ◌+◌, ◌<◌, ◌≤◌, Bool, true, false, not, List, [], ◌∷◌, ◌++◌, length, get_or, slice_get, slice_index_or, take, drop, cond, Some, None, Option, MatchOption, Bor, ◌⊎◌, sym, refl, ap, ◌∙◌, ⊎_elim, append_assoc, append-nil, drop-cons, length-append, length-drop, arith}
+use Rattle.std.proofs.Math.ListN.{get_or-append}
 use Rattle.std.proofs.Math.Seq.{get_or-append_seam}
 use Rattle.std.specs.Bool.{MatchBool}
-use Rattle.std.specs.List.{position_or_len, position, IsFirstMatchOrLen}
+use Rattle.std.specs.List.{position_or_len, prefix_len, IsFirstMatchOrLen}
 use Rattle.std.specs.Option.{unwrap_or, option_map}
-use Rattle.std.proofs.lemmas.Option.{cond_some, none-some, unwrap_or-slice_get}
-use Rattle.std.proofs.lemmas.Bool.{cases_Bool, cond-true, cond-false, not-true, false≢true}
-use Rattle.std.proofs.lemmas.List.Sums.{passes_at_first, prefix_len-le-length}
+use Rattle.std.proofs.lemmas.Option.{unwrap_or-slice_get}
+use Rattle.std.proofs.lemmas.Bool.{cases_Bool, cond-true, cond-false, false≢true}
+use Rattle.std.proofs.lemmas.List.Folds.{length-prefix_len}
+use Rattle.std.proofs.lemmas.List.Sums.{prefix_len_stops}
 use Rattle.script.specs.Text.{is_space, is_feed, before, words, words_after, lines, lines_after}
 
 -- how many spaces stand in front, and how many bytes before the first space
 abbrev pub spaces : List ℕ → ℕ
-spaces = position_or_len (λ b. not (is_space b))
+spaces = prefix_len is_space
 
 abbrev pub word_len : List ℕ → ℕ
 word_len = position_or_len is_space
 
 module _ (b : ℕ) (bs : List ℕ) where
   spaces-yes : is_space b ≡ true → spaces (b ∷ bs) ≡ suc (spaces bs)
-  spaces-yes t = cond-true _ _ _ (ap (λ x. not (not x)) t) ∙ omega arith
+  spaces-yes t = cond-true _ _ _ t ∙ omega arith
 
   spaces-no : is_space b ≡ false → spaces (b ∷ bs) ≡ 0
-  spaces-no t = cond-false _ _ _ (ap (λ x. not (not x)) t)
+  spaces-no t = cond-false _ _ _ t
 
   word_len-yes : is_space b ≡ true → word_len (b ∷ bs) ≡ 0
   word_len-yes t = cond-false _ _ _ (ap not t)
 
   word_len-no : is_space b ≡ false → word_len (b ∷ bs) ≡ suc (word_len bs)
   word_len-no t = cond-true _ _ _ (ap not t) ∙ omega arith
-
--- ---- what `position` gives
-
-not_found : (p : ℕ → Bool) (bs : List ℕ) → position p bs ≡ None → length bs ≤ position_or_len p bs
-not_found p bs e =
-    ⊎_elim
-    (λ t. absurd (none-some _ (sym e ∙ cond-true _ _ _ t)))
-    (λ t. ltb-false _ _ t)
-    (cases_Bool (nat_lt (position_or_len p bs) (length bs)))
-
-position_or_end : (p : ℕ → Bool) (bs : List ℕ) → unwrap_or (position p bs) (length bs) ≡ position_or_len p bs
-position_or_end p bs =
-    ⊎_elim
-    (λ t. ap (λ o. unwrap_or o (length bs)) (cond-true _ _ _ t))
-    (λ t. ap (λ o. unwrap_or o (length bs)) (cond-false _ _ _ t) ∙ omega (arith, ltb-false _ _ t, prefix_len-le-length (λ b. not (p b)) bs))
-    (cases_Bool (nat_lt (position_or_len p bs) (length bs)))
 
 -- ---- words
 
@@ -67,29 +52,25 @@ word_ends w (b ∷ bs) =
     (λ t. cond-false _ _ _ t ∙ word_ends (w ++ b ∷ []) bs ∙ sym (ap cut (word_len-no b bs t) ∙ ap (λ l. before l (words (drop (word_len bs) bs))) (sym (append_assoc w (b ∷ []) (take (word_len bs) bs)))))
     (cases_Bool (is_space b))
 
--- a word that is begun is the first
-word_first : (b : ℕ) (bs : List ℕ) → is_space b ≡ false → let l = b ∷ bs in words l ≡ take (word_len l) l ∷ words (drop (word_len l) l)
-word_first b bs f =
-    let l = b ∷ bs in
-    let Cut : ℕ → Type 0 = λ n. before (take n l) (words (drop n l)) ≡ take n l ∷ words (drop n l) in
-    word_ends [] l ∙ subst Cut (sym (word_len-no b bs f)) refl
+-- a line whose spaces are skipped, cut at the end of the word
+word_cut : (bs rest word after : List ℕ) → rest ≡ drop (spaces bs) bs → word ≡ take (word_len rest) rest → after ≡ drop (word_len rest) rest → words bs ≡ before word (words after)
+word_cut bs rest word after r w a =
+    unspaced bs ∙ ap words (sym r) ∙ word_ends [] rest
+    ∙ ap (λ l. before l (words (drop (word_len rest) rest))) (sym w) ∙ ap (λ l. before word (words l)) (sym a)
 
--- where every byte is a space, no word is left
-pub no_word : (bs : List ℕ) → position (λ b. not (is_space b)) bs ≡ None → words bs ≡ []
-no_word bs e = unspaced bs ∙ ap words (drop_of_length-le bs (not_found _ _ e))
+-- a word that is not empty is the first
+pub next_word : (bs rest word after : List ℕ) → 0 < length word → rest ≡ drop (spaces bs) bs → word ≡ take (word_len rest) rest → after ≡ drop (word_len rest) rest → words bs ≡ word ∷ words after
+next_word bs rest [] after some r w a = absurd (omega arith)
+next_word bs rest (b ∷ word) after some r w a = word_cut bs rest (b ∷ word) after r w a
 
--- the first word stands behind the spaces
-pub next_word : (bs rest word after : List ℕ) (i n : ℕ) → position (λ b. not (is_space b)) bs ≡ Some i → rest ≡ drop i bs → n ≡ unwrap_or (position is_space rest) (length rest) → word ≡ take n rest → after ≡ drop n rest → words bs ≡ word ∷ words after
-next_word bs rest word after i n found r stop w a =
-    let First : List ℕ → Type 0 = λ l. words l ≡ take (word_len l) l ∷ words (drop (word_len l) l) in
-    let at = cond_some _ _ _ found in
-    let lt : spaces bs < length bs = ltb-true _ _ at.0 in
-    let b = get_or bs (spaces bs) 0 in
-    let cut : First (drop (spaces bs) bs) = subst First (sym (drop-cons bs (spaces bs) 0 lt)) (word_first b (drop (suc (spaces bs)) bs) (not-true _ (passes_at_first (λ b. not (is_space b)) bs 0 lt))) in
-    let behind : drop (spaces bs) bs ≡ rest = ap (λ k. drop k bs) at.1 ∙ sym r in
-    let end : word_len rest ≡ n = sym (stop ∙ position_or_end is_space rest) in
-    unspaced bs ∙ ap words behind ∙ subst First behind cut ∙ ap (λ k. take k rest ∷ words (drop k rest)) end
-    ∙ ap (λ l. l ∷ words (drop n rest)) (sym w) ∙ ap (λ l. word ∷ words l) (sym a)
+-- where no word stands behind the spaces, none is left
+pub no_word : (bs rest word after : List ℕ) → length word ≡ 0 → rest ≡ drop (spaces bs) bs → word ≡ take (word_len rest) rest → after ≡ drop (word_len rest) rest → (words bs ≡ []) × (words after ≡ [])
+no_word bs [] word after none r w a = (unspaced bs ∙ ap words (sym r), ap words a)
+no_word bs (b ∷ rest) word after none r w a =
+    let lt : spaces bs < length bs = omega (arith, length-drop (spaces bs) bs, ap length r) in
+    let here : b ≡ get_or bs (spaces bs) 0 = ap (λ l. get_or l 0 0) (r ∙ drop-cons bs (spaces bs) 0 lt) in
+    let some : word_len (b ∷ rest) ≡ suc (word_len rest) = word_len-no b rest (ap is_space here ∙ prefix_len_stops is_space bs 0 lt) in
+    absurd (omega (arith, some, ap length w, length-prefix_len (λ b. not (is_space b)) (b ∷ rest)))
 
 -- ---- lines
 

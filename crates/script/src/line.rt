@@ -117,12 +117,17 @@ impl LineReader<'_> {
             imm: None,
             cond: None,
         };
+        // The refusal is made where it is due: `ok_or` would make one for each word.
         loop {
-            let word = self.words.next().ok_or(self.unreadable())?;
+            let Some(word) = self.words.next() else {
+                return Err(self.unreadable());
+            };
             if is_name(word, "->") {
                 return Ok(items);
             }
-            let item = read_item(word).ok_or(self.unreadable())?;
+            let Some(item) = read_item(word) else {
+                return Err(self.unreadable());
+            };
             self.add(&mut items, item)?;
         }
     }

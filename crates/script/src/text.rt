@@ -1,5 +1,6 @@
 ghost use Rattle.std.specs.Prelude.{◌≡◌, ◌-◌, ◌≤◌, [], length, slice_index_or};
 ghost use Rattle.std.specs.Iterator.{YieldsFirstRef, item_count};
+ghost use Rattle.std.specs.List.{position_or_len, prefix_len};
 ghost use Rattle.script.specs.Text.{is_space, words, lines};
 
 use std::marker::Model;
@@ -9,6 +10,31 @@ fn is_space(byte: u8) -> bool
     ensures { result ≡ is_space byte }
 {
     matches!(byte, b' ' | b'\t' | b'\r')
+}
+
+/// How many spaces stand in front.
+// A loop here and in `word_len`, since `position` takes up to half more time on many spaces and long words.
+fn space_len(bytes: &[u8]) -> usize
+    ensures { result ≡ prefix_len is_space bytes.now }
+{
+    for (n, byte) in bytes.iter().enumerate() {
+        if !is_space(*byte) {
+            return n;
+        }
+    }
+    bytes.len()
+}
+
+/// How many bytes stand before the first space.
+fn word_len(bytes: &[u8]) -> usize
+    ensures { result ≡ position_or_len is_space bytes.now }
+{
+    for (n, byte) in bytes.iter().enumerate() {
+        if is_space(*byte) {
+            return n;
+        }
+    }
+    bytes.len()
 }
 
 /// The words of a line that are still to be read, one after another.
@@ -44,12 +70,14 @@ impl<'a> Iterator for Words<'a> {
     ghost remaining = { item_count (λ s. s) };
 
     fn next(&mut self) -> Option<&'a [u8]> {
-        let start = self.rest.iter().position(|b| !is_space(*b))?;
-        let rest = &self.rest[start..];
-        let end = rest.iter().position(|b| is_space(*b)).unwrap_or(rest.len());
-        let (word, after) = rest.split_at(end);
+        // Most lines end with their last word, and many are empty.
+        if self.rest.is_empty() {
+            return None;
+        }
+        let (_, rest) = self.rest.split_at(space_len(self.rest));
+        let (word, after) = rest.split_at(word_len(rest));
         self.rest = after;
-        Some(word)
+        if word.is_empty() { None } else { Some(word) }
     }
 }
 

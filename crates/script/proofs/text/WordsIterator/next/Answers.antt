@@ -1,28 +1,38 @@
-use Rattle.std.proofs.Common.{◌≡◌, ◌-◌, not, [], length, take, drop, sym, ap, ◌∙◌, rules, tests}
-use Rattle.std.specs.List.{position}
-use Rattle.std.specs.Option.{unwrap_or}
-use Rattle.std.proofs.lemmas.List.{take_rest}
-use Rattle.std.proofs.lemmas.Iterator.{YieldsList-from_slice}
-use Rattle.std.proofs.lemmas.Iterator.Search.{position_from_yields_List}
+use Rattle.std.proofs.Common.{◌∙◌, length, not, take, drop, sym, ap, rules, arith}
+use Rattle.std.proofs.lemmas.Bool.{eqb-true}
+use Rattle.std.proofs.lemmas.List.Sums.{prefix_len-le-length}
 use Rattle.script.specs.Text.{is_space}
 use Rattle.script.proofs.Pieces.{no_word, next_word}
 use Rattle.script.proofs.text.WordsIterator.next.Goals as goal
+use Rattle.script.proofs.text.WordsIterator.next.Goals.{then-is_empty-2, else-is_empty-2}
 
-pub returns-in_err-start-clause-steps : goal.returns-in_err-start-clause-steps
-returns-in_err-start-clause-steps c =
-    let found : c.position.result ≡ position (λ b. not (is_space b)) c.self.inside.rest.now = position_from_yields_List (λ b. not (is_space b)) _ _ c.position.result c.position.ensures.ran (YieldsList-from_slice _ c.iter.ensures.rest) (λ x b q k. search (rules, tests)) in
-    let none : c.args.self.now ≡ [] = sym c.self.view_is ∙ no_word c.self.inside.rest.now (sym found ∙ c.in_err-start.was) in
-    rw c.from_residual.ensures (none, none)
+pub split_at-requires : goal.split_at-requires
+split_at-requires c = omega (arith, c.space_len.ensures, prefix_len-le-length is_space c.self.inside.rest.now)
+
+pub split_at-requires-2 : goal.split_at-requires-2
+split_at-requires-2 c = omega (arith, c.word_len.ensures, prefix_len-le-length (λ b. not (is_space b)) c.split_at.result.1.now)
 
 pub returns-clause-steps : goal.returns-clause-steps
 returns-clause-steps c =
     let line = c.self.inside.rest.now in
-    let i = c.in_ok-start.start in
-    let rest = take (length line - i) (drop i line) in
-    let found : c.position.result ≡ position (λ b. not (is_space b)) line = position_from_yields_List (λ b. not (is_space b)) _ _ c.position.result c.position.ensures.ran (YieldsList-from_slice line c.iter.ensures.rest) (λ x b q k. search (rules, tests)) in
-    let ended : c.position-2.result ≡ position is_space rest = position_from_yields_List is_space _ _ c.position-2.result c.position-2.ensures.ran (YieldsList-from_slice rest c.iter-2.ensures.rest) (λ x b q k. search (rules, tests)) in
-    sym c.self.view_is
-    ∙ next_word line rest _ _ i _ (sym found ∙ c.in_ok-start.was) (take_rest line i) (c.unwrap_or-end.ensures ∙ ap (λ o. unwrap_or o (length rest)) ended) c.split_at.ensures.front c.split_at.ensures.back
+    let rest = c.split_at.result.1.now in
+    let word = c.split_at-2.result.0.now in
+    let after = c.split_at-2.result.1.now in
+    let skipped = c.split_at.ensures.back ∙ ap (λ n. drop n line) c.space_len.ensures in
+    let front = c.split_at-2.ensures.front ∙ ap (λ n. take n rest) c.word_len.ensures in
+    let back = c.split_at-2.ensures.back ∙ ap (λ n. drop n rest) c.word_len.ensures in
+    elim c.if-is_empty-2.branch [
+      | then-is_empty-2 w ↦
+          let none = no_word line rest word after (eqb-true _ _ (sym w.if-is_empty-2.ensures)) skipped front back in
+          rw w.result-is (sym c.self.view_is ∙ none.0, none.1)
+      | else-is_empty-2 w ↦
+          rw w.result-is (sym c.self.view_is ∙ next_word line rest word after (search rules) skipped front back)
+    ]
 
 pub returns-clause-goes : goal.returns-clause-goes
-returns-clause-goes c = let e = returns-clause-steps c in search (rules, ap length e)
+returns-clause-goes c =
+    let e = returns-clause-steps c in
+    elim c.if-is_empty-2.branch [
+      | then-is_empty-2 w ↦ rw w.result-is (search rules)
+      | else-is_empty-2 w ↦ rw w.result-is (search (rules, ap length (rw w.result-is at e)))
+    ]
