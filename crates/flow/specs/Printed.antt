@@ -16,6 +16,6 @@ condition_text o cond = []
 
 abbrev pub def_text : ValueDef → List ℕ
 def_text (Constant imm) = codes "iconst " ++ signed_decimal imm
-def_text (Operation o cond args) = opcode_name o ++ condition_text o cond ++ codes " " ++ operands_text args
+def_text (Operation o cond args) = opcode_name o ++ condition_text o cond ++ operands_text args
 def_text Variable = codes "variable"
 def_text Deleted = codes "deleted"

@@ -19,12 +19,12 @@ inst_text i = codes "inst" ++ decimal i.0
 abbrev pub block_text : Block → List ℕ
 block_text b = codes "block" ++ decimal b.0
 
--- commas between them
+-- as behind the name of an operation: a space in front of the first, commas between them, nothing where there is none
 abbrev pub operands_text : Operands → List ℕ
 operands_text Nullary = []
-operands_text (Unary a) = value_text a
-operands_text (Binary a b) = value_text a ++ codes ", " ++ value_text b
-operands_text (Ternary a b c) = value_text a ++ codes ", " ++ value_text b ++ codes ", " ++ value_text c
+operands_text (Unary a) = codes " " ++ value_text a
+operands_text (Binary a b) = codes " " ++ value_text a ++ codes ", " ++ value_text b
+operands_text (Ternary a b c) = codes " " ++ value_text a ++ codes ", " ++ value_text b ++ codes ", " ++ value_text c
 
 -- the number of the refusal, its place, and what it means
 abbrev pub refusal_text : Refusal → List ℕ

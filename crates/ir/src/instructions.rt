@@ -68,16 +68,16 @@ impl IntoIterator for Operands {
     }
 }
 
-/// The operands with commas between them.
+/// The operands as they stand behind the name of an operation: a space in front of the first, commas between them, nothing where there is none.
 impl fmt::Display for Operands {
     ghost output = { λ args. Some (operands_text args) };
 
     fn fmt<W: fmt::Write>(&self, f: &mut fmt::Formatter<W>) -> fmt::Result {
         match *self {
             Operands::Nullary => Ok(()),
-            Operands::Unary(a) => write!(f, "{a}"),
-            Operands::Binary(a, b) => write!(f, "{a}, {b}"),
-            Operands::Ternary(a, b, c) => write!(f, "{a}, {b}, {c}"),
+            Operands::Unary(a) => write!(f, " {a}"),
+            Operands::Binary(a, b) => write!(f, " {a}, {b}"),
+            Operands::Ternary(a, b, c) => write!(f, " {a}, {b}, {c}"),
         }
     }
 }
