@@ -9,30 +9,20 @@ use Rattle.flow.specs.Meaning.{has}
 use Rattle.flow.proofs.Among.{has_here}
 use Rattle.loops.specs.Digraph.{Finite}
 use Rattle.loops.specs.Ranks.{is_below, is_lower, RanksFall}
-use Rattle.loops.specs.declared.dfs.State.{State}
-use Rattle.loops.specs.declared.dfs.State.TheVariants.{New, Open, Finished}
 use Rattle.loops.proofs.Closure.{path_inside}
 
 -- ---- ranks
 
-below_trans : (a b c : Option State) → is_below a b ≡ true → is_below b c ≡ true → is_below a c ≡ true
+below_trans : (a b c : Option ℕ) → is_below a b ≡ true → is_below b c ≡ true → is_below a c ≡ true
 unfolding is_below
 below_trans None b c e f = refl
-below_trans (Some New) b c e f = absurd (both_ways false refl e)
-below_trans (Some Open) b c e f = absurd (both_ways false refl e)
-below_trans (Some (Finished x)) None c e f = absurd (both_ways false refl e)
-below_trans (Some (Finished x)) (Some New) c e f = absurd (both_ways false refl e)
-below_trans (Some (Finished x)) (Some Open) c e f = absurd (both_ways false refl e)
-below_trans (Some (Finished x)) (Some (Finished y)) None e f = absurd (both_ways false refl f)
-below_trans (Some (Finished x)) (Some (Finished y)) (Some New) e f = absurd (both_ways false refl f)
-below_trans (Some (Finished x)) (Some (Finished y)) (Some Open) e f = absurd (both_ways false refl f)
-below_trans (Some (Finished x)) (Some (Finished y)) (Some (Finished z)) e f = lt-ltb x z (omega (arith, ltb-true x y e, ltb-true y z f))
+below_trans (Some x) None c e f = absurd (both_ways false refl e)
+below_trans (Some x) (Some y) None e f = absurd (both_ways false refl f)
+below_trans (Some x) (Some y) (Some z) e f = lt-ltb x z (omega (arith, ltb-true x y e, ltb-true y z f))
 
-not_below_itself : (s : State) → is_below (Some s) (Some s) ≡ true → ⊥
+not_below_itself : (rank : ℕ) → is_below (Some rank) (Some rank) ≡ true → ⊥
 unfolding is_below
-not_below_itself New e = both_ways false refl e
-not_below_itself Open e = both_ways false refl e
-not_below_itself (Finished x) e = omega (arith, ltb-true x x e)
+not_below_itself rank e = omega (arith, ltb-true rank rank e)
 
 -- ---- one node's targets
 
@@ -48,23 +38,23 @@ has_all p (w ∷ ws) h = and_from _ _ (h w (has_here w ws)) (has_all p ws (λ u 
 
 -- ---- every node's targets
 
-module _ (targets : ℕ → List ℕ) (states : List State) where
+module _ (targets : ℕ → List ℕ) (ranks : List ℕ) where
   abbrev pub Lower : ℕ → Type 0
-  Lower v = list_all (is_lower states v) (targets v) ≡ true
+  Lower v = list_all (is_lower ranks v) (targets v) ≡ true
 
   abbrev pub NotLower : ℕ → Type 0
-  NotLower v = list_all (is_lower states v) (targets v) ≡ false
+  NotLower v = list_all (is_lower ranks v) (targets v) ≡ false
 
-  lower_everywhere : RanksFall targets states → (v : ℕ) → Lower v
-  lower_everywhere falls v = has_all (is_lower states v) (targets v) (falls v)
+  lower_everywhere : RanksFall targets ranks → (v : ℕ) → Lower v
+  lower_everywhere falls v = has_all (is_lower ranks v) (targets v) (falls v)
 
   module _ (size : ℕ) (finite : Finite size targets) where
     pub ranks_tested : (r : Bool)
         → MatchBool r (AllWithin Lower (range_with_len 0 size) 0 (length (range_with_len 0 size))) ((k : ℕ) × (k < length (range_with_len 0 size)) × HoldsAt NotLower (range_with_len 0 size) k)
-        → Decides r (RanksFall targets states)
+        → Decides r (RanksFall targets ranks)
     ranks_tested true lower = (
       (λ _ v w h. let low : v < size = finite.inside v w h in
-          all_has (is_lower states v) (targets v) (subst Lower (get_or-range_with_len 0 size v 0 low ∙ omega arith) (lower v 0 (omega arith) (omega (arith, length-range_with_len 0 size)))) w h),
+          all_has (is_lower ranks v) (targets v) (subst Lower (get_or-range_with_len 0 size v 0 low ∙ omega arith) (lower v 0 (omega arith) (omega (arith, length-range_with_len 0 size)))) w h),
       (λ _. refl),
     )
     ranks_tested false (k, low, not_lower) = (
@@ -72,11 +62,11 @@ module _ (targets : ℕ → List ℕ) (states : List State) where
       (λ falls. absurd (both_ways _ (not_lower 0) (lower_everywhere falls (get_or (range_with_len 0 size) k 0)))),
     )
 
-    path_falls : RanksFall targets states → {v w : ℕ} → Path targets v w → is_lower states v w ≡ true
+    path_falls : RanksFall targets ranks → {v w : ℕ} → Path targets v w → is_lower ranks v w ≡ true
     path_falls falls {v} {w} (one h) = falls v w h
-    path_falls falls {v} {w} (more {a = b} h p) = below_trans (slice_get states w) (slice_get states b) (slice_get states v) (path_falls falls p) (falls v b h)
+    path_falls falls {v} {w} (more {a = b} h p) = below_trans (slice_get ranks w) (slice_get ranks b) (slice_get ranks v) (path_falls falls p) (falls v b h)
 
-    pub falling_loopless : RanksFall targets states → size ≤ length states → Loopless targets
+    pub falling_loopless : RanksFall targets ranks → size ≤ length ranks → Loopless targets
     falling_loopless falls long v p =
-        let here : slice_get states v ≡ Some (get_or states v New) = slice_get-get_or states v New (omega (arith, long, path_inside size targets finite p)) in
-        not_below_itself (get_or states v New) (ap (λ s. is_below s s) (sym here) ∙ path_falls falls p)
+        let here : slice_get ranks v ≡ Some (get_or ranks v 0) = slice_get-get_or ranks v 0 (omega (arith, long, path_inside size targets finite p)) in
+        not_below_itself (get_or ranks v 0) (ap (λ s. is_below s s) (sym here) ∙ path_falls falls p)

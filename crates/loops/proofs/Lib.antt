@@ -2,3 +2,4 @@ mod Closure
 mod Counted
 mod Falling
 mod Meetings
+mod Unopened

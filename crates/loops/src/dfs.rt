@@ -1,15 +1,16 @@
-ghost use Rattle.std.specs.Prelude.{◌≡◌, ◌+◌, ◌*◌, ◌≤◌, length, take};
+ghost use Rattle.std.specs.Prelude.{◌≡◌, ◌+◌, ◌*◌, ◌≤◌, true, length, take, slice_index_or};
 ghost use Rattle.arrayvec.specs.ArrayVec.{array_vec_len};
 ghost use Rattle.loops.specs.declared.dfs.TheConstants.{STACK_LEN};
-ghost use Rattle.loops.specs.Ranks.{unopened};
+ghost use Rattle.loops.specs.Ranks.{is_new, unopened};
+ghost use Rattle.loops.specs.declared.dfs.State.TheVariants.{New};
 
 use crate::digraph::Digraph;
 use crate::node::{NODES, Node};
 use arrayvec::ArrayVec;
 use ir::Value;
 
-/// How many entries the stack can have: the root, and the targets of each node that is opened, three at most.
-const STACK_LEN: usize = 3 * NODES + 1;
+/// How many entries the stack can have: the targets of each node that is opened, three at most.
+const STACK_LEN: usize = 3 * NODES;
 
 /// How far a search has come with a node.
 #[derive(Clone, Copy, PartialEq, Eq, Debug)]
@@ -18,8 +19,8 @@ pub(crate) enum State {
     New,
     /// It has come to it, and goes through what it leads to.
     Open,
-    /// It has left it. The rank is the number of nodes that it left before.
-    Finished(u16),
+    /// It has left it, and given it a rank.
+    Finished,
 }
 
 /// A depth-first search of a graph, which ranks each node as it is finished, so after what it leads to.
@@ -29,8 +30,11 @@ pub(crate) struct Dfs<'a, G> {
     graph: &'a G,
     /// How many nodes the graph has.
     size: u32,
-    // An array with a place for each node: a search allocates nothing.
+    // Arrays with a place for each node: a search allocates nothing. The ranks stand apart, since a search whose states held them
+    // took longer.
     states: [State; NODES],
+    /// How many nodes were finished before a node, 0 for one that is not finished.
+    ranks: [u16; NODES],
     /// The rank of the node that is finished next.
     next: u16,
     stack: ArrayVec<Node, STACK_LEN>,
@@ -47,6 +51,7 @@ impl<'a, G: Digraph> Dfs<'a, G> {
             graph,
             size: graph.num_nodes(),
             states: [State::New; NODES],
+            ranks: [0; NODES],
             next: 0,
             stack: ArrayVec::new(),
         }
@@ -56,55 +61,83 @@ impl<'a, G: Digraph> Dfs<'a, G> {
     pub(crate) fn rank_all(&mut self)
         ensures { self.new.size ≡ self.old.size }
     {
-        for v in 0..self.size {
-            if let Some(root) = self.new_node(Value(v)) {
+        let size = self.size;
+        for v in 0..size {
+            if let Some(root) = Node::new(Value(v), size)
+                && self.is_new(root)
+            {
                 self.rank_from(root);
             }
         }
     }
 
-    /// How far the search has come with each node. What lies past the nodes has no state.
-    pub(crate) fn states(&self) -> &[State]
-        ensures value { result.now ≡ take self.now.size self.now.states }
+    /// The ranks of the nodes.
+    pub(crate) fn ranks(&self) -> &[u16]
+        ensures value { result.now ≡ take self.now.size self.now.ranks }
         ensures len { length result.now ≡ self.now.size }
     {
-        &self.states[..self.size as usize]
+        &self.ranks[..self.size as usize]
     }
 
-    /// Ranks `root` and what it leads to, where they have no rank yet.
+    /// Ranks `root`, which is new, and what it leads to, where that has no rank yet.
     ///
     /// A node is finished when the search comes back to it, after the targets that were pushed on top of it. So without
-    /// loops each target has a lower rank.
+    /// loops each target has a lower rank. The root is not pushed: the search comes back to it when the stack is empty.
     fn rank_from(&mut self, root: Node)
+        requires { is_new (slice_index_or self.old.states root New) ≡ true }
         ensures { self.new.size ≡ self.old.size }
     {
-        self.stack.clear();
-        self.stack.push(root);
+        self.open(root);
         while let Some(v) = self.stack.last().copied() {
             match self.states[v.index()] {
-                State::New => {
-                    self.states[v.index()] = State::Open;
-                    for w in self.graph.targets(v.into()) {
-                        if let Some(node) = self.new_node(w) {
-                            self.stack.push(node);
-                        }
-                    }
-                }
+                State::New => self.open(v),
                 State::Open => {
-                    self.states[v.index()] = State::Finished(self.next);
-                    // Each node is finished once, so this stays below 1,024; nothing rests on it.
-                    self.next = self.next.saturating_add(1);
                     self.stack.pop();
+                    self.finish(v);
                 }
-                State::Finished(_) => {
+                State::Finished => {
                     self.stack.pop();
                 }
             }
         }
+        self.finish(root);
     }
 
-    /// The node that `w` is, none where it lies past the nodes or the search has come to it.
-    fn new_node(&self, w: Value) -> Option<Node> {
-        Node::new(w, self.size).filter(|node| self.states[node.index()] == State::New)
+    /// Opens `v`, and pushes its targets that are new.
+    fn open(&mut self, v: Node)
+        requires { is_new (slice_index_or self.old.states v New) ≡ true }
+        ensures stack { array_vec_len self.new.stack ≤ array_vec_len self.old.stack + 3 }
+        ensures states { unopened self.new.states + 1 ≡ unopened self.old.states }
+        ensures size { self.new.size ≡ self.old.size }
+    {
+        self.states[v.index()] = State::Open;
+        for w in self.graph.targets(v.into()) {
+            if let Some(node) = Node::new(w, self.size)
+                && self.is_new(node)
+            {
+                self.stack.push(node);
+            }
+        }
+    }
+
+    /// Leaves `v`, and gives it the next rank.
+    #[tactic(auto, using(crate::proofs::Unopened::no_more))]
+    fn finish(&mut self, v: Node)
+        ensures stack { self.new.stack ≡ self.old.stack }
+        ensures states { unopened self.new.states ≤ unopened self.old.states }
+        ensures size { self.new.size ≡ self.old.size }
+    {
+        let rank = self.next;
+        // Each node is finished once, so no rank reaches 1,024; nothing rests on it.
+        self.next = rank.saturating_add(1);
+        self.ranks[v.index()] = rank;
+        self.states[v.index()] = State::Finished;
+    }
+
+    /// Whether the search has not come to `node`.
+    fn is_new(&self, node: Node) -> bool
+        ensures { result ≡ is_new (slice_index_or self.now.states node New) }
+    {
+        self.states[node.index()] == State::New
     }
 }

@@ -4,37 +4,37 @@ ghost use Rattle.ir.specs.Entities.{values};
 ghost use Rattle.flow.specs.Loops.{Loopless};
 ghost use Rattle.loops.specs.Ranks.{is_lower, RanksFall};
 
-use crate::dfs::{Dfs, State};
+use crate::dfs::Dfs;
 use crate::digraph::Digraph;
 use crate::lowest::lowest_in_loop;
 use ir::{Operands, Value};
 
 /// Whether `w` is no node, or has a lower rank than `v`.
 #[tactic(auto, unfolding(crate::specs::Ranks::is_below))]
-fn is_lower(states: &[State], v: Value, w: Value) -> bool
-    ensures { result ≡ is_lower states.now v.0 w.0 }
+fn is_lower(ranks: &[u16], v: Value, w: Value) -> bool
+    ensures { result ≡ is_lower ranks.now v.0 w.0 }
 {
-    match (states.get(w.0 as usize), states.get(v.0 as usize)) {
+    match (ranks.get(w.0 as usize), ranks.get(v.0 as usize)) {
         (None, _) => true,
-        (Some(State::Finished(rank)), Some(State::Finished(bound))) => rank < bound,
-        _ => false,
+        (Some(rank), Some(bound)) => rank < bound,
+        (Some(_), None) => false,
     }
 }
 
 /// Whether each of the targets is no node, or has a lower rank than `v`.
-fn all_lower(states: &[State], v: Value, targets: Operands) -> bool
-    ensures { result ≡ list_all (is_lower states.now v.0) (values targets) }
+fn all_lower(ranks: &[u16], v: Value, targets: Operands) -> bool
+    ensures { result ≡ list_all (is_lower ranks.now v.0) (values targets) }
 {
-    targets.iter().all(|w| is_lower(states, v, w))
+    targets.iter().all(|w| is_lower(ranks, v, w))
 }
 
 /// Whether the ranks fall along every step from node to node.
-fn ranks_fall<G: Digraph>(graph: &G, states: &[State]) -> bool
-    ensures { Decides result (RanksFall (G.steps graph.now) states.now) }
+fn ranks_fall<G: Digraph>(graph: &G, ranks: &[u16]) -> bool
+    ensures { Decides result (RanksFall (G.steps graph.now) ranks.now) }
 {
     (0..graph.num_nodes())
         .map(Value)
-        .all(|v| all_lower(states, v, graph.targets(v)))
+        .all(|v| all_lower(ranks, v, graph.targets(v)))
 }
 
 /// Whether ranks from one depth-first search show that there is no loop.
@@ -43,7 +43,7 @@ fn has_falling_ranks<G: Digraph>(graph: &G) -> bool
 {
     let mut dfs = Dfs::new(graph);
     dfs.rank_all();
-    ranks_fall(graph, dfs.states())
+    ranks_fall(graph, dfs.ranks())
 }
 
 /// Whether there is no loop.

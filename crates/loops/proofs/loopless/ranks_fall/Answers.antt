@@ -11,8 +11,8 @@ returns g c =
     let graph = c.args.graph.now in
     let size = g.G.Digraph.size graph in
     let steps = g.G.Digraph.steps graph in
-    let states = c.args.states.now in
-    ranks_tested steps states size (g.G.Digraph.finite graph) c.all.result
-    (cases_from_all _ _ c.all.result (Lower steps states) (NotLower steps states) c.all.ensures.ran
+    let ranks = c.args.ranks.now in
+    ranks_tested steps ranks size (g.G.Digraph.finite graph) c.all.result
+    (cases_from_all _ _ c.all.result (Lower steps ranks) (NotLower steps ranks) c.all.ensures.ran
     (counted size (YieldsList-from_map_by _ (λ (v : Value). v.0) (λ (n : ℕ). n) (YieldsList-from_range 0 size size (cc) (omega arith)) c.map.ensures.closure (λ x r q k. search (rules, tests))))
     (λ x q k. search (rules, tests)) (λ x q k. search (rules, tests)))
